@@ -1,0 +1,13 @@
+-- What most proofs bring in, under one name: `use Rattle.folds.specs.Kit.{..}`.
+pub use mathlib.Core.Path.{_≡_, refl, sym, ap, _∙_}
+pub use mathlib.Core.Bool.{Bool, true, false}
+pub use Prim.Native.Nat.{ℕ, zero, suc, _+_, _-_, _*_, _<_, _≤_}
+pub use native.Mathlib.Omega.{arith}
+pub use lib.ListN.{length, set, getD, length-set}
+pub use borrow.Author.Needs.{needs}
+unfoldable pub use Rattle.folds.specs.Fold.{fold, span, walk, pick, all, tab, tabM, both}
+pub use Rattle.folds.specs.Fold.{Out, out, folds, spans, walks, alls, picks, tests, fold-turn, fold-call, fold-end, span-call, walk-call, walk-stop, pick-true, pick-false}
+pub use Rattle.folds.specs.Tab.{tab-end, tabM-end, edit-end}
+pub use Rattle.folds.specs.Cell.{cells, cell-lt, col-end}
+
+pub ruleset kit = (folds, needs)

@@ -1,0 +1,4 @@
+pub mod Fold
+pub mod Cell
+pub mod Tab
+pub mod Kit

@@ -1,0 +1,92 @@
+-- A list that a loop fills by index is the list made by index.
+use mathlib.Core.Path.{_≡_, refl, sym, ap, _∙_}
+use mathlib.Core.List.{List, [], _∷_, _++_, append-nil, append-assoc}
+use Prim.Native.Nat.{ℕ, zero, suc, _+_, _-_, _*_, _<_, _≤_}
+use mathlib.Core.Logic.{⊎-elim}
+use native.Mathlib.Nat.{not-suc-le-zero, eq-or-lt-of-le, le-of-suc-le-suc, mul-zero, mul-suc, mul-comm}
+use native.Mathlib.Omega.{arith}
+use lib.ListN.{length, set, take, drop, getD, length-append, length-drop, take-append-drop, List·getD-append}
+use lib.Seq.{drop-cons, set-at, take-at, drop-at, drop-drop, drop-length, length-take-le, getD-at, ext-getD}
+use Rattle.folds.specs.Fold.{fold, tab, tabM}
+
+module _ {A : Type 0} where
+  pub length-tab : (n : ℕ) (g : ℕ → A) → length (tab n g) ≡ n
+  unfolding tab
+  length-tab zero g = refl
+  length-tab (suc n) g = simp (length-append, length-tab n g) (omega arith)
+
+  -- after n stores
+  fill : (n : ℕ) (g : ℕ → A) (o : List A) → n ≤ length o → fold n (λ i l. set l i (g i)) o ≡ tab n g ++ drop n o
+  unfolding fold tab
+  fill zero g o h = refl
+  fill (suc n) g o h =
+      let p : n ≤ length o = omega arith in
+      rw (fill n g o p, drop-cons o n (g n) h, set-at (tab n g) (getD o n (g n)) (drop (suc n) o) (g n) n (length-tab n g), append-assoc)
+
+  -- the whole of the list o was filled
+  pub tab-end : {s : List A} (k n : ℕ) (g : ℕ → A) (o : List A) → k ≤ n → n ≤ k → length o ≡ n → s ≡ fold k (λ i l. set l i (g i)) o → s ≡ tab n g
+  tab-end k n g o p q m e =
+      let z : k ≡ n = omega arith in
+      let y : n ≤ length o = omega arith in
+      e ∙ rw (z, fill n g o y, ← m, drop-length, append-nil)
+
+  pub length-tabM : (n m : ℕ) (g : ℕ → ℕ → A) → length (tabM n m g) ≡ n * m
+  unfolding tabM
+  length-tabM n zero g = sym (mul-zero n)
+  length-tabM n (suc m) g = simp (length-append, length-tabM n m g, length-tab, mul-suc)
+
+  -- n stores from b on
+  fill-at : (b n : ℕ) (g : ℕ → A) (o : List A) → b + n ≤ length o → fold n (λ i l. set l (i + b) (g i)) o ≡ take b o ++ (tab n g ++ drop (b + n) o)
+  unfolding fold tab
+  fill-at b zero g o h = let z : b + 0 ≡ b = omega arith in rw (z, take-append-drop)
+  fill-at b (suc n) g o h =
+      let p : b + n ≤ length o = omega arith in
+      let q : b + n < length o = omega arith in
+      let z : b + suc n ≡ suc (b + n) = omega arith in
+      let y : n + b ≡ b + n = omega arith in
+      let t : length (take b o ++ tab n g) ≡ b + n = simp (length-append, length-take-le b o (omega arith), length-tab) in
+      rw (z, fill-at b n g o p, y, drop-cons o (b + n) (g n) q, ← append-assoc, set-at (take b o ++ tab n g) (getD o (b + n) (g n)) (drop (suc (b + n)) o) (g n) (b + n) t)
+      (simp append-assoc)
+
+  fillM : (n m : ℕ) (g : ℕ → ℕ → A) (o : List A) → n * m ≤ length o → fold m (λ j l. fold n (λ i x. set x (i + j * n) (g i j)) l) o ≡ tabM n m g ++ drop (n * m) o
+  unfolding fold tabM
+  fillM n zero g o h = rw (mul-zero n)
+  fillM n (suc m) g o h =
+      let z : n * suc m ≡ n * m + n = mul-suc n m in
+      let p : n * m ≤ length o = omega arith in
+      let t : length (tabM n m g) ≡ n * m = length-tabM n m g in
+      let y : m * n ≡ n * m = mul-comm m n in
+      let w : n * m + n ≤ length (tabM n m g ++ drop (n * m) o) = simp (length-append, length-drop, t) (omega arith) in
+      rw (z, fillM n m g o p, y, fill-at (n * m) n (λ i. g i m) (tabM n m g ++ drop (n * m) o) w, take-at (tabM n m g) (drop (n * m) o) (n * m) t, ← drop-drop n (n * m), drop-at (tabM n m g) (drop (n * m) o) (n * m) t, drop-drop n (n * m) o, append-assoc)
+
+  pub tabM-end : {s : List A} (k n m : ℕ) (g : ℕ → ℕ → A) (o : List A) → k ≤ m → m ≤ k → length o ≡ n * m → s ≡ fold k (λ j l. fold n (λ i x. set x (i + j * n) (g i j)) l) o → s ≡ tabM n m g
+  tabM-end k n m g o p q h e =
+      let z : k ≡ m = omega arith in
+      let y : n * m ≤ length o = omega arith in
+      e ∙ rw (z, fillM n m g o y, ← h, drop-length, append-nil)
+
+  pub getD-tab : (d : A) (n i : ℕ) (g : ℕ → A) → i < n → getD (tab n g) i d ≡ g i
+  unfolding tab
+  getD-tab d zero i g h = absurd (not-suc-le-zero h)
+  getD-tab d (suc n) i g h =
+      ⊎-elim (λ (e : i ≡ n). rw (e, getD-at (tab n g) (g n) [] d n (length-tab n g)))
+      (λ (l : i < n). let k : i < length (tab n g) = rw (length-tab n g) l in rw (List·getD-append (tab n g) (g n ∷ []) d i k, getD-tab d n i g l))
+      (eq-or-lt-of-le (le-of-suc-le-suc h))
+
+  pub tab-getD : (d : A) (l : List A) → l ≡ tab (length l) (λ i. getD l i d)
+  tab-getD d l = ext-getD d l (tab (length l) (λ i. getD l i d)) (sym (length-tab (length l) (λ i. getD l i d))) (λ i h. sym (getD-tab d (length l) i (λ i. getD l i d) h))
+
+  -- each element is replaced by h of its index and itself
+  edit : (d : A) (n : ℕ) (h : ℕ → A → A) (o : List A) → n ≤ length o → fold n (λ i l. set l i (h i (getD l i d))) o ≡ tab n (λ i. h i (getD o i d)) ++ drop n o
+  unfolding fold tab
+  edit d zero h o p = refl
+  edit d (suc n) h o p =
+      let q : n ≤ length o = omega arith in
+      let g : ℕ → A = λ i. h i (getD o i d) in
+      rw (edit d n h o q, drop-cons o n d p, getD-at (tab n g) (getD o n d) (drop (suc n) o) d n (length-tab n g), set-at (tab n g) (getD o n d) (drop (suc n) o) (g n) n (length-tab n g), append-assoc)
+
+  pub edit-end : {s : List A} (d : A) (k n : ℕ) (h : ℕ → A → A) (o : List A) → k ≤ n → n ≤ k → length o ≡ n → s ≡ fold k (λ i l. set l i (h i (getD l i d))) o → s ≡ tab n (λ i. h i (getD o i d))
+  edit-end d k n h o p q m e =
+      let z : k ≡ n = omega arith in
+      let y : n ≤ length o = omega arith in
+      e ∙ rw (z, edit d n h o y, ← m, drop-length, append-nil)
