@@ -24,6 +24,11 @@ pub fn total_cmp(a: &f64, b: &f64) -> Ordering {
     }
 }
 
+/// "`powi(2)` is v times v."
+pub fn square(v: f64) -> f64 {
+    v * v
+}
+
 /// A matrix or a vector: its entries, column after column.
 pub trait Entries {
     fn entries(&self) -> &[f64];
@@ -45,7 +50,7 @@ pub trait Entries {
     /// "The `norm()` of a column or matrix is the root of the sum of squares, column after
     /// column."
     fn norm(&self) -> f64 {
-        self.iter().map(|v| v * v).sum_from_zero().sqrt()
+        self.iter().map(|&v| square(v)).sum_from_zero().sqrt()
     }
 }
 

@@ -2,8 +2,8 @@
 //! ones with bounded variables solved by a primal active-set method on top of it.
 //!
 //! Copied from thinkjrs/cutup 4029c00e74, src/qp.rs (MIT, see NOTICE). Changed:
-//! - The matrix library is [`crate::matrix`]. Sums of iterators start at +0 (`sum_from_zero`), and
-//!   in `total_cmp` any two NaNs are equal and above +infinity.
+//! - The matrix library is [`crate::matrix`]. Sums of iterators start at +0 (`sum_from_zero`), in
+//!   `total_cmp` any two NaNs are equal and above +infinity, and `powi(2)` is `square`.
 //! - An answer of [`solve_piecewise`] also carries the multipliers and the number of passes, and
 //!   one of [`solve_turnover_capped`] the accepted raise of the slopes too.
 //! - `Bounds::new` and `Bounds::nonnegative`, which nothing here calls, are left out.
@@ -11,7 +11,7 @@
 
 use crate::CutupError;
 use crate::eigen::SymmetricEigen;
-use crate::matrix::{Cholesky, DMatrix, DVector, Dyn, Entries, SumFromZero, total_cmp};
+use crate::matrix::{Cholesky, DMatrix, DVector, Dyn, Entries, SumFromZero, square, total_cmp};
 use crate::slips::{Slip, slipped};
 use std::cmp::Ordering;
 
@@ -244,11 +244,7 @@ pub(crate) fn norm(m: &impl Entries) -> f64 {
     if largest == 0.0 || largest.is_infinite() {
         return largest;
     }
-    largest
-        * m.iter()
-            .map(|v| (v / largest).powi(2))
-            .sum_from_zero()
-            .sqrt()
+    largest * m.iter().map(|v| square(v / largest)).sum_from_zero().sqrt()
 }
 
 /// `K` and `E` put on a comparable scale, so that the cutoffs treat them alike: `K` divided by
@@ -1211,7 +1207,7 @@ fn step_noise(q_rows: &DMatrix<f64>, x: &DVector<f64>, c_free: &DVector<f64>) ->
 const PIVOT_FLOOR: f64 = 1.0 / 67_108_864.0;
 
 /// Whether every pivot of `cholesky` is at least [`PIVOT_FLOOR`]. A NaN pivot isn't.
-fn positive_definite(cholesky: &Cholesky<f64, Dyn>) -> bool {
+pub(crate) fn positive_definite(cholesky: &Cholesky<f64, Dyn>) -> bool {
     cholesky
         .l_dirty()
         .diagonal()

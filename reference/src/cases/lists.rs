@@ -1,0 +1,104 @@
+//! The fixed lists: runs of records, each a 16-bit length and a body.
+
+use super::algebra;
+use super::engine::{Call, Case, Generator, Style};
+use std::collections::{BTreeMap, BTreeSet};
+
+/// No record's body is longer.
+pub const LONGEST_BODY: usize = 16_000;
+
+/// A list and what it holds: how many records of each group and outcome.
+#[derive(Debug, Default)]
+pub struct List {
+    pub bytes: Vec<u8>,
+    pub counts: BTreeMap<(&'static str, u32), usize>,
+}
+
+impl List {
+    /// Adds a record, unless its body is too long.
+    pub fn push(&mut self, group: &'static str, outcome: u32, body: &[u8]) -> bool {
+        let fits = body.len() <= LONGEST_BODY;
+        if fits {
+            let length = body.len() as u16;
+            self.bytes.extend(length.to_le_bytes());
+            self.bytes.extend(body);
+            *self.counts.entry((group, outcome)).or_default() += 1;
+        }
+        fits
+    }
+
+    /// How many records.
+    pub fn len(&self) -> usize {
+        self.counts.values().sum()
+    }
+
+    pub fn is_empty(&self) -> bool {
+        self.bytes.is_empty()
+    }
+
+    /// The table of groups and outcomes, in Markdown.
+    pub fn table(&self) -> String {
+        let groups: BTreeSet<_> = self.counts.keys().map(|key| key.0).collect();
+        let outcomes: BTreeSet<_> = self.counts.keys().map(|key| key.1).collect();
+        let row = |name: &str, cells: Vec<String>| format!("| {name} | {} |\n", cells.join(" | "));
+        let count = |group, outcome| self.counts.get(&(group, outcome)).copied().unwrap_or(0);
+        let mut table = row("", outcomes.iter().map(u32::to_string).collect());
+        table += &row("---", outcomes.iter().map(|_| "---:".to_string()).collect());
+        for &group in &groups {
+            let cells = outcomes.iter().map(|&o| match count(group, o) {
+                0 => String::new(),
+                count => count.to_string(),
+            });
+            table += &row(group, cells.collect());
+        }
+        let total = |&o: &u32| groups.iter().map(|&g| count(g, o)).sum::<usize>();
+        table += &row(
+            "**all**",
+            outcomes
+                .iter()
+                .map(|o| format!("**{}**", total(o)))
+                .collect(),
+        );
+        table
+    }
+}
+
+/// The list of a call: the cases made on purpose, then seeded ones up to `count` records.
+pub fn engine(call: Call, made: &[Case], seed: u64, count: usize) -> List {
+    let mut list = List::default();
+    let add = |list: &mut List, case: &Case| {
+        let outcome = case.run(call);
+        list.push(case.family, outcome.number, &case.encode(call, &outcome));
+    };
+    for case in made {
+        add(&mut list, case);
+    }
+    for number in 0.. {
+        if list.len() >= count {
+            break;
+        }
+        add(
+            &mut list,
+            &Generator::case(Style::Compact, call, seed, number),
+        );
+    }
+    list
+}
+
+/// The list of the kernels.
+pub fn algebra(seed: u64) -> List {
+    let mut list = List::default();
+    for (kind, name, count) in algebra::KINDS {
+        let mut added = 0;
+        for number in 0.. {
+            if added == count {
+                break;
+            }
+            let case = algebra::Generator::case(kind, seed, number);
+            let outcome = case.run();
+            let body = case.encode(&outcome);
+            added += usize::from(list.push(name, u32::from(outcome.is_none()), &body));
+        }
+    }
+    list
+}
