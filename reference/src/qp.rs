@@ -7,7 +7,7 @@
 //! - An answer of [`solve_piecewise`] also carries the multipliers and the number of passes, and
 //!   one of [`solve_turnover_capped`] the accepted raise of the slopes too.
 //! - `Bounds::new` and `Bounds::nonnegative`, which nothing here calls, are left out.
-//! - Three marked places ask [`slipped`], which is false but in tests of known slips.
+//! - Three places ask [`slipped`], which is false but in tests of known slips.
 
 use crate::CutupError;
 use crate::eigen::SymmetricEigen;
@@ -902,12 +902,13 @@ fn solve_piecewise_in_units(
         // instead. Rounding is measured against all of x, since variables held at a nonzero
         // point feed the step: a lone free variable at its bound would otherwise block on a
         // step of 1e-17.
-        let measured = if slipped(Slip::ToleranceOverSlacks) {
-            target.amax().max(x.amax())
-        } else {
-            target.rows(0, solved.len()).amax().max(variables.amax())
-        };
-        let tolerance = 1e-12 * measured;
+        let mut tolerance = 1e-12 * target.rows(0, solved.len()).amax().max(variables.amax());
+        if slipped(Slip::ToleranceOverTargets) {
+            tolerance = 1e-12 * target.amax().max(variables.amax());
+        }
+        if slipped(Slip::ToleranceOverPoint) {
+            tolerance = 1e-12 * target.rows(0, solved.len()).amax().max(x.amax());
+        }
         let blocking = (0..indices.len())
             .filter_map(|k| {
                 if target[k] < lower[k] - tolerance {

@@ -4,8 +4,10 @@
 /// A slip in `qp.rs`.
 #[derive(Debug, Clone, Copy, PartialEq, Eq)]
 pub(crate) enum Slip {
-    /// Measuring the full step's 1e-12 tolerance over slacks as well as words.
-    ToleranceOverSlacks,
+    /// Measuring the full step's 1e-12 tolerance over the slacks' targets as well as the words'.
+    ToleranceOverTargets,
+    /// Measuring it over all of the point, slacks included.
+    ToleranceOverPoint,
     /// Clearing the refused marks when a step of length 0 is stopped.
     RefusedCleared,
     /// Taking the first of equal largest rates.

@@ -14,16 +14,14 @@ fn main() {
         _ => panic!("usage: cases lists SEED"),
     };
     write("replay_algebra", || lists::algebra(seed));
-    write("replay_kkt", || lists::engine(Call::Kkt, &[], seed, 1700));
+    write("replay_kkt", || lists::engine(Call::Kkt, seed, 2000));
     write("replay_bounded", || {
-        lists::engine(Call::Bounded, &[], seed, 1000)
+        lists::engine(Call::Bounded, seed, 1200)
     });
     write("replay_piecewise", || {
-        lists::engine(Call::Piecewise, &[], seed, 1000)
+        lists::engine(Call::Piecewise, seed, 1200)
     });
-    write("replay_capped", || {
-        lists::engine(Call::Capped, &[], seed, 1000)
-    });
+    write("replay_capped", || lists::engine(Call::Capped, seed, 1200));
 }
 
 fn write(program: &str, make: impl Fn() -> List) {

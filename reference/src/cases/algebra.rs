@@ -509,6 +509,10 @@ impl Generator {
             let diagonal = self.values(n);
             first = matrix(n, |i, j| if i == j { diagonal[i] } else { 0.0 });
         }
+        if n > 0 && self.rng.chance(8) {
+            let place = self.rng.below(n * n);
+            first[place] = self.rng.pick(&[f64::NAN, f64::INFINITY, f64::NEG_INFINITY]);
+        }
         Case {
             kind: Kind::Eigen,
             counts: [n, 0, 0],

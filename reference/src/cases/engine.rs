@@ -258,7 +258,7 @@ pub enum Style {
 type Family = (&'static str, fn(&mut Generator) -> Case);
 
 /// The families of [`Call::Kkt`] come first.
-const FAMILIES: [Family; 24] = [
+const FAMILIES: [Family; 26] = [
     ("conditioned", Generator::conditioned),
     ("singular", Generator::singular),
     ("nearly singular", Generator::nearly_singular),
@@ -283,6 +283,8 @@ const FAMILIES: [Family; 24] = [
     ("kinks at bounds", Generator::kinks_at_bounds),
     ("ties", Generator::ties),
     ("best at a corner", Generator::corner),
+    ("unbounded", Generator::unbounded),
+    ("joining", Generator::joining),
 ];
 
 const KKT_FAMILIES: usize = 15;
@@ -324,8 +326,8 @@ impl Generator {
     /// A number from 0 to `limit`, small ones mostly in the compact style.
     fn size(&mut self, least: usize, usual: usize, limit: usize) -> usize {
         let most = match self.style {
-            Style::Compact if self.rng.chance(92) => usual,
-            Style::Compact if self.rng.chance(75) => (2 * usual).min(limit),
+            Style::Compact if self.rng.chance(85) => usual,
+            Style::Compact if self.rng.chance(80) => (2 * usual).min(limit),
             _ => limit,
         };
         least + self.rng.below(most + 1 - least)
@@ -728,13 +730,13 @@ impl Generator {
         let mut case = match self.rng.below(8) {
             0 => self.problem(MAX_ORIGINALS + 1, 0, 0, 1, 1.0),
             1 => self.problem(2, MAX_EQUALITIES + 1, 1, 2, 1.0),
-            2 => self.problem(2, 1, MAX_ROWS + 1, 2, 1.0),
+            2 if self.call != Call::Kkt => self.problem(2, 1, MAX_ROWS + 1, 2, 1.0),
             3 => {
                 let mut case = self.conditioned();
                 match self.rng.below(3) {
                     0 => case.n += 1,
-                    1 => case.m += 1,
-                    _ => case.r += 1,
+                    1 if self.call != Call::Kkt => case.r += 1,
+                    _ => case.m += 1,
                 }
                 case
             }
@@ -742,28 +744,17 @@ impl Generator {
                 let mut case = self.conditioned();
                 let mut slices = case.slices(self.call);
                 let place = self.rng.below(slices.len());
-                match self.rng.chance(50) {
-                    true => slices[place].push(1.0),
-                    false => drop(slices[place].pop()),
+                match slices[place].pop() {
+                    Some(last) if self.rng.chance(50) => slices[place].extend([last, 1.0]),
+                    Some(_) => {}
+                    None => slices[place].push(1.0),
                 }
                 case
             }
         };
         if self.rng.chance(30) {
-            let slice = self
-                .rng
-                .pick(&[0, 1, 2, 3])
-                .min(case.row_lower.len().max(1));
-            let bounds = [
-                &mut case.lower,
-                &mut case.upper,
-                &mut case.row_lower,
-                &mut case.row_upper,
-            ];
-            for (k, bound) in bounds.into_iter().enumerate() {
-                if k == slice && !bound.is_empty() {
-                    bound[0] = f64::NAN;
-                }
+            for bound in case.lower.iter_mut().chain(&mut case.row_upper) {
+                *bound = f64::NAN;
             }
         }
         case
@@ -979,6 +970,47 @@ impl Generator {
                 &mut case.row_upper,
             ] {
                 slice.clear();
+            }
+        }
+        case
+    }
+
+    /// Flat directions with a pull along them and few bounds.
+    fn unbounded(&mut self) -> Case {
+        let mut case = self.singular();
+        for i in 0..case.n {
+            if self.rng.chance(80) {
+                case.lower[i] = f64::NEG_INFINITY;
+            }
+            if self.rng.chance(80) {
+                case.upper[i] = f64::INFINITY;
+            }
+            if self.rng.chance(70) {
+                case.c[i] += self.value(20);
+            }
+        }
+        for j in 0..case.r {
+            if self.rng.chance(70) {
+                case.row_lower[j] = f64::NEG_INFINITY;
+                case.row_upper[j] = f64::INFINITY;
+            }
+        }
+        case
+    }
+
+    /// Enough variables that a factor is kept and changed, many of them held at the start.
+    fn joining(&mut self) -> Case {
+        let n = match self.style {
+            Style::Compact => 7 + self.rng.below(6),
+            Style::Wide => 7 + self.rng.below(MAX_ORIGINALS - 6),
+        };
+        let m = self.rng.below(3);
+        let r = self.rng.below(3);
+        let mut case = self.problem(n, m, r, n / 2, 2.0);
+        for i in 0..n {
+            if self.rng.chance(50) {
+                case.lower[i] = case.start[i];
+                case.upper[i] = case.start[i] + 9.0;
             }
         }
         case

@@ -2,6 +2,7 @@
 
 use super::algebra;
 use super::engine::{Call, Case, Generator, Style};
+use super::made;
 use std::collections::{BTreeMap, BTreeSet};
 
 /// No record's body is longer.
@@ -64,25 +65,42 @@ impl List {
 }
 
 /// The list of a call: the cases made on purpose, then seeded ones up to `count` records.
-pub fn engine(call: Call, made: &[Case], seed: u64, count: usize) -> List {
+pub fn engine(call: Call, seed: u64, count: usize) -> List {
     let mut list = List::default();
-    let add = |list: &mut List, case: &Case| {
-        let outcome = case.run(call);
-        list.push(case.family, outcome.number, &case.encode(call, &outcome));
-    };
-    for case in made {
-        add(&mut list, case);
-    }
-    for number in 0.. {
-        if list.len() >= count {
+    let mut searches = LongSearches::default();
+    let seeded = (0..).map(|number| Generator::case(Style::Compact, call, seed, number));
+    for case in made::cases().into_iter().chain(seeded) {
+        if list.len() == count {
             break;
         }
-        add(
-            &mut list,
-            &Generator::case(Style::Compact, call, seed, number),
-        );
+        let outcome = case.run(call);
+        if call == Call::Capped && outcome.number == 14 && !searches.admit(&case) {
+            continue;
+        }
+        list.push(case.family, outcome.number, &case.encode(call, &outcome));
     }
     list
+}
+
+/// The problems whose cap no raise reaches, each of which takes a thousand solves. A list has few
+/// of them, so that it is replayed in a few seconds.
+#[derive(Default)]
+struct LongSearches {
+    small: usize,
+    large: usize,
+}
+
+impl LongSearches {
+    /// Whether `case`, which the capped call refuses, goes into the list.
+    fn admit(&mut self, case: &Case) -> bool {
+        let solved_uncapped = [0, 13].contains(&case.run(Call::Piecewise).number);
+        let (count, most) = match case.n {
+            0..=6 => (&mut self.small, 90),
+            _ => (&mut self.large, 8),
+        };
+        *count += usize::from(solved_uncapped);
+        !solved_uncapped || *count <= most
+    }
 }
 
 /// The list of the kernels.
