@@ -143,3 +143,6 @@ pub(crate) fn rotate(a: &mut DMatrix<f64>, v: &mut DMatrix<f64>, p: usize, q: us
         v[(k, q)] = s * vkp + c * vkq;
     }
 }
+
+#[cfg(test)]
+mod tests;

@@ -654,3 +654,6 @@ fn reflect(matrix: &mut DMatrix<f64>, j: usize, first: usize, v: &DVector<f64>) 
         matrix[(first + i, j)] = *entry;
     }
 }
+
+#[cfg(test)]
+mod tests;

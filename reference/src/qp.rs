@@ -1437,3 +1437,6 @@ fn descent_ray(
     }
     Ok(direction)
 }
+
+#[cfg(test)]
+mod tests;
