@@ -1,7 +1,9 @@
 //! The reference build: a copy of the source's two Rust files over a small matrix module, and
 //! an independent block reader, service and check.
 
+pub mod bench;
 pub mod cases;
+pub mod compare;
 mod eigen;
 pub mod engine;
 mod error;

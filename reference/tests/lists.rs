@@ -1,7 +1,7 @@
 //! The fixed lists, read back and run again.
 
 use reference::cases::code::Decoder;
-use reference::cases::{algebra, engine, lists};
+use reference::cases::{algebra, engine};
 use std::collections::BTreeMap;
 use std::path::Path;
 
@@ -72,5 +72,4 @@ fn lists_are_small() {
     let programs = ["algebra", "kkt", "bounded", "piecewise", "capped"];
     let sizes = programs.map(|program| list(&format!("replay_{program}")).len());
     assert!(sizes.iter().sum::<usize>() < 2_600_000);
-    assert!(lists::LONGEST_BODY < 16 * 1024);
 }

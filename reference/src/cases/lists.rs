@@ -1,18 +1,19 @@
 //! The fixed lists: runs of records, each a 16-bit length and a body.
 
 use super::algebra;
-use super::engine::{Call, Case, Generator, Style};
+use super::engine::{Call, Case};
+use super::families::{Generator, Style};
 use super::made;
 use std::collections::{BTreeMap, BTreeSet};
 
 /// No record's body is longer.
 pub const LONGEST_BODY: usize = 16_000;
 
-/// A list and what it holds: how many records of each group and outcome.
+/// A list and what it holds.
 #[derive(Debug, Default)]
 pub struct List {
     pub bytes: Vec<u8>,
-    pub counts: BTreeMap<(&'static str, u32), usize>,
+    pub counts: Counts,
 }
 
 impl List {
@@ -23,26 +24,31 @@ impl List {
             let length = body.len() as u16;
             self.bytes.extend(length.to_le_bytes());
             self.bytes.extend(body);
-            *self.counts.entry((group, outcome)).or_default() += 1;
+            self.counts.add(group, outcome);
         }
         fits
     }
+}
 
-    /// How many records.
-    pub fn len(&self) -> usize {
-        self.counts.values().sum()
+/// How many cases there are of each group and outcome.
+#[derive(Debug, Default)]
+pub struct Counts(BTreeMap<(&'static str, u32), usize>);
+
+impl Counts {
+    pub fn add(&mut self, group: &'static str, outcome: u32) {
+        *self.0.entry((group, outcome)).or_default() += 1;
     }
 
-    pub fn is_empty(&self) -> bool {
-        self.bytes.is_empty()
+    pub fn total(&self) -> usize {
+        self.0.values().sum()
     }
 
     /// The table of groups and outcomes, in Markdown.
     pub fn table(&self) -> String {
-        let groups: BTreeSet<_> = self.counts.keys().map(|key| key.0).collect();
-        let outcomes: BTreeSet<_> = self.counts.keys().map(|key| key.1).collect();
+        let groups: BTreeSet<_> = self.0.keys().map(|key| key.0).collect();
+        let outcomes: BTreeSet<_> = self.0.keys().map(|key| key.1).collect();
         let row = |name: &str, cells: Vec<String>| format!("| {name} | {} |\n", cells.join(" | "));
-        let count = |group, outcome| self.counts.get(&(group, outcome)).copied().unwrap_or(0);
+        let count = |group, outcome| self.0.get(&(group, outcome)).copied().unwrap_or(0);
         let mut table = row("", outcomes.iter().map(u32::to_string).collect());
         table += &row("---", outcomes.iter().map(|_| "---:".to_string()).collect());
         for &group in &groups {
@@ -53,14 +59,8 @@ impl List {
             table += &row(group, cells.collect());
         }
         let total = |&o: &u32| groups.iter().map(|&g| count(g, o)).sum::<usize>();
-        table += &row(
-            "**all**",
-            outcomes
-                .iter()
-                .map(|o| format!("**{}**", total(o)))
-                .collect(),
-        );
-        table
+        let totals = outcomes.iter().map(|o| format!("**{}**", total(o)));
+        table + &row("**all**", totals.collect())
     }
 }
 
@@ -70,7 +70,7 @@ pub fn engine(call: Call, seed: u64, count: usize) -> List {
     let mut searches = LongSearches::default();
     let seeded = (0..).map(|number| Generator::case(Style::Compact, call, seed, number));
     for case in made::cases().into_iter().chain(seeded) {
-        if list.len() == count {
+        if list.counts.total() == count {
             break;
         }
         let outcome = case.run(call);

@@ -3,6 +3,7 @@
 pub mod algebra;
 pub mod code;
 pub mod engine;
+pub mod families;
 pub mod lists;
 pub mod made;
 
