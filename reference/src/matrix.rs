@@ -39,12 +39,8 @@ pub trait Entries {
 
     /// "`amax` passes over NaN and is 0 for nothing or for NaN alone."
     fn amax(&self) -> f64 {
-        self.iter().fold(
-            0.0,
-            |max, entry| {
-                if entry.abs() > max { entry.abs() } else { max }
-            },
-        )
+        let sizes = self.iter().map(|entry| entry.abs());
+        sizes.fold(0.0, |max, size| if size > max { size } else { max })
     }
 
     /// "The `norm()` of a column or matrix is the root of the sum of squares, column after

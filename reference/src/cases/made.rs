@@ -247,7 +247,7 @@ mod tests {
     }
 
     #[test]
-    fn passes_do_run_out() {
+    fn going_round_without_end_is_14() {
         let [bounded, longer, ..] = passes_run_out();
         assert_eq!(bounded.run(Call::Bounded).number, 14);
         assert_eq!(longer.run(Call::Bounded).number, 14);
