@@ -1,11 +1,16 @@
 //! Seeded cases with the reference's answers.
 
 pub mod algebra;
+pub mod attempt;
+pub mod block;
 pub mod code;
+pub mod damage;
 pub mod engine;
 pub mod families;
+pub mod known;
 pub mod lists;
 pub mod made;
+pub mod slips;
 
 /// The n × n matrix of `entry`, column after column.
 fn matrix(n: usize, entry: impl Fn(usize, usize) -> f64) -> Vec<f64> {
