@@ -43,22 +43,25 @@ impl Counts {
         self.0.values().sum()
     }
 
+    pub fn of(&self, group: &'static str, outcome: u32) -> usize {
+        self.0.get(&(group, outcome)).copied().unwrap_or(0)
+    }
+
     /// The table of groups and outcomes, in Markdown.
     pub fn table(&self) -> String {
         let groups: BTreeSet<_> = self.0.keys().map(|key| key.0).collect();
         let outcomes: BTreeSet<_> = self.0.keys().map(|key| key.1).collect();
         let row = |name: &str, cells: Vec<String>| format!("| {name} | {} |\n", cells.join(" | "));
-        let count = |group, outcome| self.0.get(&(group, outcome)).copied().unwrap_or(0);
         let mut table = row("", outcomes.iter().map(u32::to_string).collect());
         table += &row("---", outcomes.iter().map(|_| "---:".to_string()).collect());
         for &group in &groups {
-            let cells = outcomes.iter().map(|&o| match count(group, o) {
+            let cells = outcomes.iter().map(|&o| match self.of(group, o) {
                 0 => String::new(),
                 count => count.to_string(),
             });
             table += &row(group, cells.collect());
         }
-        let total = |&o: &u32| groups.iter().map(|&g| count(g, o)).sum::<usize>();
+        let total = |&o: &u32| groups.iter().map(|&g| self.of(g, o)).sum::<usize>();
         let totals = outcomes.iter().map(|o| format!("**{}**", total(o)));
         table + &row("**all**", totals.collect())
     }

@@ -3,6 +3,7 @@
 pub mod algebra;
 pub mod attempt;
 pub mod block;
+pub mod block_lists;
 pub mod code;
 pub mod damage;
 pub mod engine;
