@@ -11,6 +11,7 @@ pub mod families;
 pub mod known;
 pub mod lists;
 pub mod made;
+pub mod scale;
 pub mod slips;
 
 /// The n × n matrix of `entry`, column after column.
