@@ -1,4 +1,6 @@
-use Rattle.folds.specs.Kit.{_≡_, true, false, _-_, _≤_, needs, alls}
+use Rattle.folds.specs.Kit.{_≡_, true, false, _-_, _≤_, sym, _∙_, arith, needs, alls}
+use Rattle.folds.specs.Fold.{all-stop, all-turn}
+use borrow.Author.Tests.{not-true, not-false}
 use Rattle.vector.specs.Vector.{allFinite}
 use Rattle.vector.proofs.all_finite.Statement.{statement}
 use Rattle.vector.proofs.all_finite.Tie as tie
@@ -20,8 +22,8 @@ all-finite-spec =
     (λ c. search kit)  -- mul-is-finite
     (λ c. search kit)  -- shared-slice-read-is-finite
     (λ c κs. search kit)  -- is-finite-requires
-    (λ c. search kit)  -- returns
+    (λ c. all-stop _ _ _ (c .before .before .before .loop-test .taken) (sym (c .before .is-finite .ensures) ∙ not-true _ (c .if1 .taken)))  -- returns
     (λ c. search kit)  -- add-k
     (λ c. search kit)  -- loop-less
-    (λ c. search kit)  -- loop-again
+    (λ c. (omega arith, all-turn _ _ (c .before .before .before .before .loop .inv .1) (sym (c .before .is-finite .ensures) ∙ not-false _ (c .if1 .left))))  -- loop-again
     (λ c. search kit))  -- returns-2

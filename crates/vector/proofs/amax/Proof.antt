@@ -1,4 +1,4 @@
-use Rattle.folds.specs.Kit.{_≡_, _-_, _≤_, kit}
+use Rattle.folds.specs.Kit.{_≡_, _-_, _≤_, arith, fold-call, kit}
 use Rattle.vector.specs.Vector.{amax}
 use Rattle.vector.proofs.amax.Statement.{statement}
 use Rattle.vector.proofs.amax.Tie as tie
@@ -21,5 +21,5 @@ amax-spec =
     (λ c κs. search kit)  -- max-requires
     (λ c. search kit)  -- add-k
     (λ c. search kit)  -- loop-less
-    (λ c. search kit)  -- loop-again
+    (λ c. (omega arith, fold-call _ _ _ (c .before .before .before .before .loop .inv .1) (rw (c .max .ensures, c .before .abs .ensures))))  -- loop-again
     (λ c. search kit))  -- returns

@@ -1,4 +1,5 @@
-use Rattle.folds.specs.Kit.{_≡_, true, false, _-_, _≤_, needs, somes}
+use Rattle.folds.specs.Kit.{_≡_, true, false, _-_, _≤_, sym, _∙_, arith, needs, somes}
+use Rattle.folds.specs.Fold.{some-stop, some-turn}
 use Rattle.vector.specs.Vector.{anyNan}
 use Rattle.vector.proofs.any_nan.Statement.{statement}
 use Rattle.vector.proofs.any_nan.Tie as tie
@@ -20,8 +21,8 @@ any-nan-spec =
     (λ c. search kit)  -- mul-is-nan
     (λ c. search kit)  -- shared-slice-read-is-nan
     (λ c κs. search kit)  -- is-nan-requires
-    (λ c. search kit)  -- returns
+    (λ c. some-stop _ _ _ (c .before .before .before .loop-test .taken) (sym (c .before .is-nan .ensures) ∙ c .if1 .taken))  -- returns
     (λ c. search kit)  -- add-k
     (λ c. search kit)  -- loop-less
-    (λ c. search kit)  -- loop-again
+    (λ c. (omega arith, some-turn _ _ (c .before .before .before .before .loop .inv .1) (sym (c .before .is-nan .ensures) ∙ c .if1 .left)))  -- loop-again
     (λ c. search kit))  -- returns-2

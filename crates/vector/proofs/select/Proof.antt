@@ -1,4 +1,4 @@
-use Rattle.folds.specs.Kit.{_≡_, _-_, _≤_, length, set, getD, fold, over-kit}
+use Rattle.folds.specs.Kit.{_≡_, _-_, _≤_, arith, length, set, getD, fold, over-kit}
 use Rattle.arith.specs.Float.{at}
 use Rattle.vector.specs.Vector.{select}
 use Rattle.vector.proofs.select.Statement.{statement}
@@ -18,8 +18,8 @@ select-spec =
     (λ c. search over-kit)  -- loop-holds
     (λ c. search over-kit)  -- mul-y
     (λ c. search over-kit)  -- shared-slice-read-y
-    (λ c. search over-kit)  -- mul-y-2
-    (λ c. search over-kit)  -- shared-slice-read-y-2
+    (λ c. omega (arith, c .before .before .before .pre .3 _ (c .before .loop-test .taken)))  -- mul-y-2
+    (λ c. omega (arith, c .before .before .before .before .pre .3 _ (c .before .before .loop-test .taken)))  -- shared-slice-read-y-2
     (λ c. search over-kit)  -- mul-y-3
     (λ c. search over-kit)  -- slice-write-y
     (λ c. search over-kit)  -- add-i

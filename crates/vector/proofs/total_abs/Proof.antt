@@ -1,4 +1,4 @@
-use Rattle.folds.specs.Kit.{_≡_, _-_, _≤_, kit}
+use Rattle.folds.specs.Kit.{_≡_, _-_, _≤_, arith, fold-call, kit}
 use Rattle.vector.specs.Vector.{totalAbs}
 use Rattle.vector.proofs.total_abs.Statement.{statement}
 use Rattle.vector.proofs.total_abs.Tie as tie
@@ -20,5 +20,5 @@ total-abs-spec =
     (λ c κs. search kit)  -- abs-requires
     (λ c. search kit)  -- add-k
     (λ c. search kit)  -- loop-less
-    (λ c. search kit)  -- loop-again
+    (λ c. (omega arith, fold-call _ _ _ (c .before .before .before .loop .inv .1) (rw (c .abs .ensures))))  -- loop-again
     (λ c. search kit))  -- returns
