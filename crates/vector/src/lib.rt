@@ -1,8 +1,9 @@
 // Vectors: a slice, of which the first n elements count.
 ghost use mathlib.Core.Path.{_≡_};
-ghost use Prim.Native.Nat.{_≤_};
+ghost use Prim.Native.Nat.{_+_, _≤_, _<_};
 ghost use lib.ListN.{length};
 ghost use Rattle.folds.specs.Fold.{over};
+ghost use Rattle.folds.specs.Chosen.{held, pushIf};
 ghost use Rattle.vector.specs.Vector as Vector;
 ghost use Rattle.vector.specs.Vector.{Below};
 
@@ -162,6 +163,24 @@ pub fn sub_scaled(y: &mut [f64], n: usize, x: &[f64], by: f64)
 }
 
 // The rest write their result over the start of y.
+pub fn scaled(a: &[f64], n: usize, by: f64, y: &mut [f64])
+    requires { ⌜ (n ≤ length (now a)) × (n ≤ length (now y)) ⌝ }
+    ensures { λ _. ⌜ now (y .exit) ≡ over (Vector.scaled n (now (a .entry)) by) (now (y .entry)) ⌝ }
+{
+    for k in 0..n {
+        y[k] = a[k] * by;
+    }
+}
+
+pub fn divided(a: &[f64], n: usize, by: f64, y: &mut [f64])
+    requires { ⌜ (n ≤ length (now a)) × (n ≤ length (now y)) ⌝ }
+    ensures { λ _. ⌜ now (y .exit) ≡ over (Vector.divided n (now (a .entry)) by) (now (y .entry)) ⌝ }
+{
+    for k in 0..n {
+        y[k] = a[k] / by;
+    }
+}
+
 pub fn add(a: &[f64], b: &[f64], n: usize, y: &mut [f64])
     requires { ⌜ (n ≤ length (now a)) × (n ≤ length (now b)) × (n ≤ length (now y)) ⌝ }
     ensures { λ _. ⌜ now (y .exit) ≡ over (Vector.add n (now (a .entry)) (now (b .entry))) (now (y .entry)) ⌝ }
@@ -233,4 +252,17 @@ pub fn select(a: &[f64], n: usize, list: &[usize], k: usize, y: &mut [f64])
     for i in 0..k {
         y[i] = a[list[i]];
     }
+}
+
+// k at place m of list if on, and the next free place.
+pub fn push_if(on: bool, k: usize, m: usize, list: &mut [usize]) -> usize
+    requires { ⌜ m < length (now list) ⌝ }
+    ensures { λ r. ⌜ held r (now (list .exit)) ≡ pushIf on k (held m (now (list .entry))) ⌝ }
+    ensures { λ r. ⌜ r ≤ m + 1 ⌝ }
+{
+    if on {
+        list[m] = k;
+        return m + 1;
+    }
+    m
 }
