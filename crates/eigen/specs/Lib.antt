@@ -1,1 +1,2 @@
 pub mod Eigen
+pub mod Known
