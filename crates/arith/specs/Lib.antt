@@ -1,0 +1,3 @@
+pub mod Float
+pub mod Scalar
+pub mod Known

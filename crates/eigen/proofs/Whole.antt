@@ -1,0 +1,52 @@
+-- The work lists have as many elements as the matrix, so what is written over one is all of it. And from there to the answer.
+use mathlib.Core.Path.{_≡_, refl, sym, ap, _∙_}
+use mathlib.Core.Bool.{Bool, true, false}
+use mathlib.Core.List.{List}
+use Prim.Native.Nat.{ℕ, _*_, _≤_}
+use native.Mathlib.Nat.{mul-le-mul}
+use lib.ListN.{length}
+use lib.Ieee.{Float, nan}
+use Rattle.folds.specs.Fold.{over, out}
+use Rattle.folds.specs.Tab.{over-all, length-tab, length-tabM, tab-getD}
+use Rattle.folds.specs.Part.{two}
+use Rattle.arith.specs.Float.{fmul, epsilon}
+use Rattle.vector.specs.Vector.{divided, norm, copy}
+use Rattle.matrix.specs.Matrix.{trMul, mul, identity, cellDot, columnsDot, unit}
+use Rattle.eigen.specs.Eigen.{rotated, mean, symmetric, start, tolerance, sweeps, values, jacobi, written}
+
+whole : {x l : List Float} (o : List Float) (m : ℕ) → length l ≡ m → length o ≡ m → x ≡ over l o → x ≡ l
+whole {x} {l} o m p q e = e ∙ over-all l o (p ∙ sym q)
+
+pub small : {n : ℕ} → n ≤ 32 → n * n ≤ 1024
+small h = mul-le-mul h h
+
+module _ (n : ℕ) (a : List Float) (scale : Float) where
+  pub started : {r₁ r₂ b₁ b₂ v₁ : List Float} (r₀ b₀ v₀ : List Float) → length r₀ ≡ n * n → length b₀ ≡ n * n → length v₀ ≡ n * n
+      → r₁ ≡ over (divided (n * n) a scale) r₀ → v₁ ≡ over (identity n) v₀ → b₁ ≡ over (trMul n n n v₁ r₁) b₀
+      → r₂ ≡ over (mul n n n b₁ v₁) r₁ → b₂ ≡ over (symmetric n r₂) b₁
+      → (r₂ ≡ rotated n (divided (n * n) a scale)) × (b₂ ≡ start n a scale) × (v₁ ≡ identity n)
+  unfolding divided identity trMul mul symmetric rotated start
+  started {r₁} {r₂} {b₁} {b₂} {v₁} r₀ b₀ v₀ lr lb lv er ev eb fr fb =
+      let d : r₁ ≡ divided (n * n) a scale = whole r₀ (n * n) (length-tab _ _) lr er in
+      let i : v₁ ≡ identity n = whole v₀ (n * n) (length-tabM n n unit) lv ev in
+      let t : b₁ ≡ trMul n n n v₁ r₁ = whole b₀ (n * n) (length-tabM n n (columnsDot n v₁ r₁)) lb eb in
+      let m : r₂ ≡ mul n n n b₁ v₁ = whole r₁ (n * n) (length-tabM n n (cellDot n n b₁ v₁)) (ap length d ∙ length-tab _ _) fr in
+      let y : b₂ ≡ symmetric n r₂ = whole b₁ (n * n) (length-tabM n n (mean n r₂)) (ap length t ∙ length-tabM n n (columnsDot n v₁ r₁)) fb in
+      let z : r₂ ≡ rotated n (divided (n * n) a scale) = m ∙ rw (t, i, d) in
+      (z, y ∙ ap (symmetric n) z, i)
+
+  copied : {v : List Float} (m : ℕ) → length v ≡ m → copy m v ≡ v
+  unfolding copy
+  copied {v} m e = rw (← e) (sym (tab-getD nan v))
+
+  -- where the sweeps end in b₂ and v₂
+  module _ {b₁ v₁ b₂ v₂ : List Float} (o p : List Float) {ok : Bool} {size : Float} (eb : b₁ ≡ start n a scale) (ev : v₁ ≡ identity n) (es : size ≡ norm (n * n) b₁)
+      (ew : out ok (two b₂ v₂) ≡ sweeps n (fmul epsilon size) (two b₁ v₁)) where
+    pub found : {l q : List Float} → ok ≡ true → length v₂ ≡ n * n → l ≡ over (values n b₂ scale) o → q ≡ over (copy (n * n) v₂) p
+        → out true (two l q) ≡ written (jacobi n a scale) o p
+    unfolding jacobi tolerance
+    found h len el eq = rw (← eb, ← ev, ← es, ← ew, h, el, eq, copied (n * n) len)
+
+    pub lost : ok ≡ false → out false (two o p) ≡ written (jacobi n a scale) o p
+    unfolding jacobi tolerance
+    lost h = rw (← eb, ← ev, ← es, ← ew, h)

@@ -1,0 +1,15 @@
+use Rattle.folds.specs.Kit.{pick, kit}
+use Rattle.eigen.specs.Eigen.{tangent}
+use Rattle.eigen.proofs.tangent.Statement.{statement}
+use Rattle.eigen.proofs.tangent.Tie as tie
+
+pub tangent-spec : {M : Type 1} → statement M
+unfolding tangent pick
+tangent-spec =
+    tie.close
+    (tie.spec
+    (λ c κs. search kit)  -- abs-requires
+    (λ c. rw (← c .before .abs .ensures, c .if1 .taken))  -- returns
+    (λ c κs. search kit)  -- signum-requires
+    (λ c κs. search kit)  -- sqrt-requires
+    (λ c. rw (← c .before .before .before .abs .ensures, c .before .before .if1 .left, ← c .before .signum .ensures, ← c .sqrt .ensures)))  -- returns-2

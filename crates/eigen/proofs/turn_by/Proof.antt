@@ -1,0 +1,12 @@
+use Rattle.folds.specs.Kit.{kit}
+use Rattle.eigen.specs.Eigen.{turnBy}
+use Rattle.eigen.proofs.turn_by.Statement.{statement}
+use Rattle.eigen.proofs.turn_by.Tie as tie
+
+pub turn-by-spec : {M : Type 1} → statement M
+unfolding turnBy
+turn-by-spec =
+    tie.close
+    (tie.spec
+    (λ c κs. search kit)  -- sqrt-requires
+    (λ c. rw (← c .sqrt .ensures)))  -- returns

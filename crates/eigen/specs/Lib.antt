@@ -1,0 +1,2 @@
+pub mod Eigen
+pub mod Known

@@ -1,0 +1,269 @@
+// eigen.rs: the symmetric eigendecomposition by the cyclic Jacobi method.
+ghost use mathlib.Core.Path.{_≡_};
+ghost use Prim.Native.Nat.{_≤_, _<_, _*_};
+ghost use lib.ListN.{length};
+ghost use Rattle.folds.specs.Fold.{out, over};
+ghost use Rattle.folds.specs.Part.{two};
+ghost use Rattle.vector.specs.Vector as Vector;
+ghost use Rattle.matrix.specs.Matrix as Matrix;
+ghost use Rattle.eigen.specs.Eigen as Eigen;
+
+// Sweeps allowed before giving up.
+const MAX_SWEEPS: usize = 100;
+
+// The cosine and sine of a rotation.
+pub struct Turn {
+    pub c: f64,
+    pub s: f64,
+}
+
+// t = tan θ is the smaller root of t² + 2τt − 1 = 0. When τ is so large that τ² overflows, t ≈ 1 / 2τ.
+fn tangent(tau: f64) -> f64
+    ensures { λ r. ⌜ r ≡ Eigen.tangent tau ⌝ }
+{
+    let size = arith::abs(tau);
+    if size > 1e150 {
+        return 0.5 / tau;
+    }
+    arith::signum(tau) / (size + root::sqrt(tau * tau + 1.0))
+}
+
+fn turn_by(t: f64) -> Turn
+    ensures { λ r. ⌜ r ≡ Eigen.turnBy t ⌝ }
+{
+    let c = 1.0 / root::sqrt(t * t + 1.0);
+    Turn { c: c, s: t * c }
+}
+
+fn angle(a: &[f64], n: usize, p: usize, q: usize) -> Turn
+    requires { ⌜ (n * n ≤ length (now a)) × (p < n) × (q < n) ⌝ }
+    ensures { λ r. ⌜ r ≡ Eigen.angle n p q (now (a .entry)) ⌝ }
+{
+    let tau = (matrix::get(a, n, n, q, q) - matrix::get(a, n, n, p, p)) / (2.0 * matrix::get(a, n, n, p, q));
+    turn_by(tangent(tau))
+}
+
+fn turn_in_row(a: &mut [f64], n: usize, p: usize, q: usize, t: Turn, k: usize)
+    requires { ⌜ (n * n ≤ length (now a)) × (p < n) × (q < n) × (k < n) ⌝ }
+    ensures { λ _. ⌜ now (a .exit) ≡ Eigen.turnInRow n p q t k (now (a .entry)) ⌝ }
+{
+    let akp = matrix::get(&a[..], n, n, k, p);
+    let akq = matrix::get(&a[..], n, n, k, q);
+    matrix::put(a, n, n, k, p, t.c * akp - t.s * akq);
+    matrix::put(a, n, n, k, q, t.s * akp + t.c * akq);
+}
+
+fn turn_in_column(a: &mut [f64], n: usize, p: usize, q: usize, t: Turn, k: usize)
+    requires { ⌜ (n * n ≤ length (now a)) × (p < n) × (q < n) × (k < n) ⌝ }
+    ensures { λ _. ⌜ now (a .exit) ≡ Eigen.turnInColumn n p q t k (now (a .entry)) ⌝ }
+{
+    let apk = matrix::get(&a[..], n, n, p, k);
+    let aqk = matrix::get(&a[..], n, n, q, k);
+    matrix::put(a, n, n, p, k, t.c * apk - t.s * aqk);
+    matrix::put(a, n, n, q, k, t.s * apk + t.c * aqk);
+}
+
+fn turn_columns(a: &mut [f64], n: usize, p: usize, q: usize, t: Turn)
+    requires { ⌜ (n * n ≤ length (now a)) × (p < n) × (q < n) ⌝ }
+    ensures { λ _. ⌜ now (a .exit) ≡ Eigen.turnColumns n p q t (now (a .entry)) ⌝ }
+{
+    for k in 0..n {
+        turn_in_row(a, n, p, q, t, k);
+    }
+}
+
+fn turn_rows(a: &mut [f64], n: usize, p: usize, q: usize, t: Turn)
+    requires { ⌜ (n * n ≤ length (now a)) × (p < n) × (q < n) ⌝ }
+    ensures { λ _. ⌜ now (a .exit) ≡ Eigen.turnRows n p q t (now (a .entry)) ⌝ }
+{
+    for k in 0..n {
+        turn_in_column(a, n, p, q, t, k);
+    }
+}
+
+fn turned(a: &mut [f64], n: usize, p: usize, q: usize, t: Turn)
+    requires { ⌜ (n * n ≤ length (now a)) × (p < n) × (q < n) ⌝ }
+    ensures { λ _. ⌜ now (a .exit) ≡ Eigen.turned n p q t (now (a .entry)) ⌝ }
+{
+    turn_columns(a, n, p, q, t);
+    turn_rows(a, n, p, q, t);
+    matrix::put(a, n, n, p, q, 0.0);
+    matrix::put(a, n, n, q, p, 0.0);
+}
+
+// Applies the Jacobi rotation that zeroes a's entry p, q: A ← JᵀAJ and V ← VJ.
+pub fn rotate(a: &mut [f64], v: &mut [f64], n: usize, p: usize, q: usize)
+    requires { ⌜ (n * n ≤ length (now a)) × (n * n ≤ length (now v)) × (p < n) × (q < n) ⌝ }
+    ensures { λ _. ⌜ two (now (a .exit)) (now (v .exit)) ≡ Eigen.rotate n p q (two (now (a .entry)) (now (v .entry))) ⌝ }
+{
+    if matrix::get(&a[..], n, n, p, q) == 0.0 {
+        return;
+    }
+    let t = angle(&a[..], n, p, q);
+    turned(a, n, p, q, t);
+    turn_columns(v, n, p, q, t);
+}
+
+fn sweep_row(a: &mut [f64], v: &mut [f64], n: usize, p: usize)
+    requires { ⌜ (n * n ≤ length (now a)) × (n * n ≤ length (now v)) × (p < n) ⌝ }
+    ensures { λ _. ⌜ two (now (a .exit)) (now (v .exit)) ≡ Eigen.sweepRow n p (two (now (a .entry)) (now (v .entry))) ⌝ }
+{
+    for q in p + 1..n {
+        rotate(a, v, n, p, q);
+    }
+}
+
+fn sweep(a: &mut [f64], v: &mut [f64], n: usize)
+    requires { ⌜ (n * n ≤ length (now a)) × (n * n ≤ length (now v)) ⌝ }
+    ensures { λ _. ⌜ two (now (a .exit)) (now (v .exit)) ≡ Eigen.sweep n (two (now (a .entry)) (now (v .entry))) ⌝ }
+{
+    for p in 0..n {
+        sweep_row(a, v, n, p);
+    }
+}
+
+fn off_row(a: &[f64], n: usize, p: usize, sum: f64) -> f64
+    requires { ⌜ (n * n ≤ length (now a)) × (p < n) ⌝ }
+    ensures { λ r. ⌜ r ≡ Eigen.offRow n (now (a .entry)) p sum ⌝ }
+{
+    let mut s = sum;
+    for q in p + 1..n {
+        let apq = matrix::get(a, n, n, p, q);
+        s = s + apq * apq;
+    }
+    s
+}
+
+fn off_diagonal(a: &[f64], n: usize) -> f64
+    requires { ⌜ n * n ≤ length (now a) ⌝ }
+    ensures { λ r. ⌜ r ≡ Eigen.offDiagonal n (now (a .entry)) ⌝ }
+{
+    let mut s = 0.0;
+    for p in 0..n {
+        s = off_row(a, n, p, s);
+    }
+    s
+}
+
+// Sweeps until the off-diagonal part is below rounding of the whole: false if it is NaN or the sweeps run out.
+fn sweeps(a: &mut [f64], v: &mut [f64], n: usize, tolerance: f64) -> bool
+    requires { ⌜ (n * n ≤ length (now a)) × (n * n ≤ length (now v)) ⌝ }
+    ensures { λ r. ⌜ out r (two (now (a .exit)) (now (v .exit))) ≡ Eigen.sweeps n tolerance (two (now (a .entry)) (now (v .entry))) ⌝ }
+{
+    for _ in 0..MAX_SWEEPS {
+        let off = off_diagonal(&a[..], n);
+        if arith::is_nan(off) {
+            return false;
+        }
+        if root::sqrt(2.0 * off) <= tolerance {
+            return true;
+        }
+        sweep(a, v, n);
+    }
+    false
+}
+
+fn symmetric_column(r: &[f64], n: usize, j: usize, a: &mut [f64])
+    requires { ⌜ (n * n ≤ length (now r)) × (n * n ≤ length (now a)) × (j < n) ⌝ }
+    ensures { λ _. ⌜ now (a .exit) ≡ Matrix.putColumn n n j (λ i. Eigen.mean n (now (r .entry)) i j) (now (a .entry)) ⌝ }
+{
+    for i in 0..n {
+        let rij = matrix::get(r, n, n, i, j);
+        let rji = matrix::get(r, n, n, j, i);
+        matrix::put(a, n, n, i, j, (rij + rji) * 0.5);
+    }
+}
+
+// a = (r + rᵀ) / 2.
+fn symmetric(r: &[f64], n: usize, a: &mut [f64])
+    requires { ⌜ (n * n ≤ length (now r)) × (n * n ≤ length (now a)) ⌝ }
+    ensures { λ _. ⌜ now (a .exit) ≡ over (Eigen.symmetric n (now (r .entry))) (now (a .entry)) ⌝ }
+{
+    for j in 0..n {
+        symmetric_column(r, n, j, a);
+    }
+}
+
+// b = what the sweeps start from, v = the identity; r is work memory.
+fn start(a: &[f64], n: usize, scale: f64, r: &mut [f64], b: &mut [f64], v: &mut [f64])
+    requires { ⌜ (n ≤ 32) × (n * n ≤ length (now a)) × (length (now r) ≡ n * n) × (length (now b) ≡ n * n) × (length (now v) ≡ n * n) ⌝ }
+    ensures { λ _. ⌜ (now (r .exit) ≡ Eigen.rotated n (Vector.divided (n * n) (now (a .entry)) scale)) × (now (b .exit) ≡ Eigen.start n (now (a .entry)) scale) × (now (v .exit) ≡ Matrix.identity n) ⌝ }
+{
+    let count = n * n;
+    vector::divided(a, count, scale, r);
+    matrix::identity(v, n);
+    matrix::tr_mul(&v[..], n, n, &r[..], n, b);
+    matrix::mul(&b[..], n, n, &v[..], n, r);
+    symmetric(&r[..], n, b);
+}
+
+fn eigenvalues(a: &[f64], n: usize, scale: f64, values: &mut [f64])
+    requires { ⌜ (n * n ≤ length (now a)) × (n ≤ length (now values)) ⌝ }
+    ensures { λ _. ⌜ now (values .exit) ≡ over (Eigen.values n (now (a .entry)) scale) (now (values .entry)) ⌝ }
+{
+    for i in 0..n {
+        values[i] = matrix::get(a, n, n, i, i) * scale;
+    }
+}
+
+// The decomposition in work memory r, b and v, then written out.
+fn jacobi(a: &[f64], n: usize, scale: f64, r: &mut [f64], b: &mut [f64], v: &mut [f64], values: &mut [f64], vectors: &mut [f64]) -> bool
+    requires { ⌜ (n ≤ 32) × (n * n ≤ length (now a)) × (length (now r) ≡ n * n) × (length (now b) ≡ n * n) × (length (now v) ≡ n * n) × (n ≤ length (now values)) × (n * n ≤ length (now vectors)) ⌝ }
+    ensures { λ ok. ⌜ out ok (two (now (values .exit)) (now (vectors .exit))) ≡ Eigen.written (Eigen.jacobi n (now (a .entry)) scale) (now (values .entry)) (now (vectors .entry)) ⌝ }
+{
+    let count = n * n;
+    start(a, n, scale, r, b, v);
+    let tolerance = arith::EPSILON * vector::norm(&b[..], count);
+    if sweeps(b, v, n, tolerance) {
+        eigenvalues(&b[..], n, scale, values);
+        vector::copy(&v[..], count, vectors);
+        return true;
+    }
+    false
+}
+
+// `SymmetricEigen::new`: the eigenvalues and the eigenvectors of a, at the start of the two slices; false, and nothing
+// written, if a has NaN or infinite entries or the sweeps run out.
+pub fn symmetric_eigen(a: &[f64], n: usize, values: &mut [f64], vectors: &mut [f64]) -> bool
+    requires { ⌜ (n ≤ 32) × (n * n ≤ length (now a)) × (n ≤ length (now values)) × (n * n ≤ length (now vectors)) ⌝ }
+    ensures { λ r. ⌜ out r (two (now (values .exit)) (now (vectors .exit))) ≡ Eigen.written (Eigen.symmetricEigen n (now (a .entry))) (now (values .entry)) (now (vectors .entry)) ⌝ }
+{
+    let count = n * n;
+    if !vector::all_finite(a, count) {
+        return false;
+    }
+    let scale = vector::amax(a, count);
+    if scale == 0.0 {
+        vector::fill(values, n, 0.0);
+        matrix::identity(vectors, n);
+        return true;
+    }
+    let mut r = [0.0; 1024];
+    let mut b = [0.0; 1024];
+    let mut v = [0.0; 1024];
+    jacobi(a, n, scale, &mut r[..count], &mut b[..count], &mut v[..count], values, vectors)
+}
+
+// `split`: the numbers of the eigenvalues above the cutoff, in order, and how many.
+pub fn range(values: &[f64], n: usize, cutoff: f64, list: &mut [usize]) -> usize
+    requires { ⌜ (n ≤ length (now values)) × (n ≤ length (now list)) ⌝ }
+    ensures { λ r. ⌜ (r ≡ length (Eigen.range n (now (values .entry)) cutoff)) × (now (list .exit) ≡ over (Eigen.range n (now (values .entry)) cutoff) (now (list .entry))) ⌝ }
+{
+    let mut m = 0;
+    for k in 0..n {
+        m = vector::push_if(values[k] > cutoff, k, m, list);
+    }
+    m
+}
+
+// And of the others.
+pub fn null(values: &[f64], n: usize, cutoff: f64, list: &mut [usize]) -> usize
+    requires { ⌜ (n ≤ length (now values)) × (n ≤ length (now list)) ⌝ }
+    ensures { λ r. ⌜ (r ≡ length (Eigen.null n (now (values .entry)) cutoff)) × (now (list .exit) ≡ over (Eigen.null n (now (values .entry)) cutoff) (now (list .entry))) ⌝ }
+{
+    let mut m = 0;
+    for k in 0..n {
+        m = vector::push_if(!(values[k] > cutoff), k, m, list);
+    }
+    m
+}
