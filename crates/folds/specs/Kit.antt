@@ -11,3 +11,6 @@ pub use Rattle.folds.specs.Tab.{tab-end, tabM-end, edit-end, over-tab, o
 pub use Rattle.folds.specs.Cell.{cells, cell-lt, col-end}
 
 pub ruleset kit = (folds, needs)
+
+-- for a loop that writes the start of a slice
+pub ruleset over-kit = (folds, over-tab, over-tabM, needs)
