@@ -1,1 +1,2 @@
 pub mod Triangular
+pub mod Known
