@@ -6,8 +6,8 @@ use mathlib.Core.Logic.{⊎-elim}
 use native.Mathlib.Nat.{not-suc-le-zero, eq-or-lt-of-le, le-of-suc-le-suc, mul-zero, mul-suc, mul-comm}
 use native.Mathlib.Omega.{arith}
 use lib.ListN.{length, set, take, drop, getD, length-append, length-drop, take-append-drop, List·getD-append}
-use lib.Seq.{drop-cons, set-at, take-at, drop-at, drop-drop, drop-length, length-take-le, getD-at, ext-getD}
-use Rattle.folds.specs.Fold.{fold, tab, tabM}
+use lib.Seq.{drop-cons, set-at, take-at, drop-at, drop-drop, drop-length, length-take-le, getD-at, getD-append-add, getD-drop, ext-getD}
+use Rattle.folds.specs.Fold.{fold, tab, tabM, over}
 
 module _ {A : Type 0} where
   pub length-tab : (n : ℕ) (g : ℕ → A) → length (tab n g) ≡ n
@@ -90,3 +90,41 @@ module _ {A : Type 0} where
       let z : k ≡ n = omega arith in
       let y : n ≤ length o = omega arith in
       e ∙ rw (z, edit d n h o y, ← m, drop-length, append-nil)
+
+  -- ---- written over the start of a longer list
+  pub over-tab : {s : List A} (k n : ℕ) (g : ℕ → A) (o : List A) → k ≤ n → n ≤ k → n ≤ length o → s ≡ fold k (λ i l. set l i (g i)) o → s ≡ over (tab n g) o
+  unfolding over
+  over-tab k n g o p q m e =
+      let z : k ≡ n = omega arith in
+      e ∙ rw (z, fill n g o m, length-tab n g)
+
+  pub over-tabM : {s : List A} (k n m : ℕ) (g : ℕ → ℕ → A) (o : List A) → k ≤ m → m ≤ k → n * m ≤ length o → s ≡ fold k (λ j l. fold n (λ i x. set x (i + j * n) (g i j)) l) o → s ≡ over (tabM n m g) o
+  unfolding over
+  over-tabM k n m g o p q h e =
+      let z : k ≡ m = omega arith in
+      e ∙ rw (z, fillM n m g o h, length-tabM n m g)
+
+  pub over-edit : {s : List A} (d : A) (k n : ℕ) (h : ℕ → A → A) (o : List A) → k ≤ n → n ≤ k → n ≤ length o → s ≡ fold k (λ i l. set l i (h i (getD l i d))) o → s ≡ over (tab n (λ i. h i (getD o i d))) o
+  unfolding over
+  over-edit d k n h o p q m e =
+      let z : k ≡ n = omega arith in
+      e ∙ rw (z, edit d n h o m, length-tab n (λ i. h i (getD o i d)))
+
+  pub length-over : (l o : List A) → length l ≤ length o → length (over l o) ≡ length o
+  unfolding over
+  length-over l o h = simp (length-append, length-drop) (omega arith)
+
+  -- inside l, and past it
+  pub over-in : (d : A) (l o : List A) (i : ℕ) → i < length l → getD (over l o) i d ≡ getD l i d
+  unfolding over
+  over-in d l o i h = List·getD-append l (drop (length l) o) d i h
+
+  pub over-past : (d : A) (l o : List A) (i : ℕ) → length l ≤ i → getD (over l o) i d ≡ getD o i d
+  unfolding over
+  over-past d l o i h =
+      let z : i ≡ length l + (i - length l) = omega arith in
+      rw (z, getD-append-add l (drop (length l) o) (i - length l) d, getD-drop (length l) o (i - length l) d)
+
+  pub over-all : (l o : List A) → length l ≡ length o → over l o ≡ l
+  unfolding over
+  over-all l o e = rw (e, drop-length, append-nil)

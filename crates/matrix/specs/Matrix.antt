@@ -1,0 +1,76 @@
+-- Matrices: a list of columns one after the other, and the number of rows. Scaling, sums, differences, norms and amax are the vector's, of n * m elements.
+use Prim.Native.Nat.{ℕ, _+_, _*_}
+use mathlib.Core.List.{List}
+use lib.Dec.{eqb}
+use lib.ListN.{set, getD}
+use lib.Ieee.{Float}
+use Rattle.folds.specs.Fold.{fold, tab, tabM, pick}
+use Rattle.arith.specs.Float.{fmul, f0, f1, at, sum}
+
+-- row i, column j of a matrix of n rows
+abbrev pub cell : List Float → ℕ → ℕ → ℕ → Float
+cell a n i j = at a (i + j * n)
+
+abbrev pub put : List Float → ℕ → ℕ → ℕ → Float → List Float
+put a n i j v = set a (i + j * n) v
+
+unfoldable pub column : ℕ → List Float → ℕ → List Float
+column n a j = tab n (λ i. cell a n i j)
+
+unfoldable pub diagonal : ℕ → List Float → List Float
+diagonal n a = tab n (λ i. cell a n i i)
+
+unfoldable pub trace : ℕ → List Float → Float
+trace n a = sum n (λ i. cell a n i i)
+
+-- a is n by m: a x, by row i of a times x, and aᵀ x, by column j of a times x
+unfoldable pub rowDot : ℕ → ℕ → List Float → ℕ → List Float → Float
+rowDot n m a i x = sum m (λ j. fmul (cell a n i j) (at x j))
+
+unfoldable pub mulVec : ℕ → ℕ → List Float → List Float → List Float
+mulVec n m a x = tab n (λ i. rowDot n m a i x)
+
+unfoldable pub columnDot : ℕ → List Float → ℕ → List Float → Float
+columnDot n a j x = sum n (λ i. fmul (cell a n i j) (at x i))
+
+unfoldable pub trMulVec : ℕ → ℕ → List Float → List Float → List Float
+trMulVec n m a x = tab m (λ j. columnDot n a j x)
+
+-- a is n by p, b p by m: a b, by row i of a times column j of b
+unfoldable pub cellDot : ℕ → ℕ → List Float → List Float → ℕ → ℕ → Float
+cellDot n p a b i j = sum p (λ k. fmul (cell a n i k) (cell b p k j))
+
+unfoldable pub mul : ℕ → ℕ → ℕ → List Float → List Float → List Float
+mul n p m a b = tabM n m (cellDot n p a b)
+
+-- a is n by p, b n by m: aᵀ b, by column i of a times column j of b
+unfoldable pub columnsDot : ℕ → List Float → List Float → ℕ → ℕ → Float
+columnsDot n a b i j = sum n (λ k. fmul (cell a n k i) (cell b n k j))
+
+unfoldable pub trMul : ℕ → ℕ → ℕ → List Float → List Float → List Float
+trMul n p m a b = tabM p m (columnsDot n a b)
+
+-- a is n by m
+unfoldable pub transpose : ℕ → ℕ → List Float → List Float
+transpose n m a = tabM m n (λ i j. cell a n j i)
+
+unfoldable pub unit : ℕ → ℕ → Float
+unit i j = pick (eqb i j) f1 f0
+
+unfoldable pub identity : ℕ → List Float
+identity n = tabM n n unit
+
+-- the i-th number of a list
+abbrev pub index : List ℕ → ℕ → ℕ
+index l i = getD l i 0
+
+-- the k rows of a (n by m) that the list l names, and the k columns
+unfoldable pub selectRows : ℕ → ℕ → List Float → ℕ → List ℕ → List Float
+selectRows n m a k l = tabM k m (λ i j. cell a n (index l i) j)
+
+unfoldable pub selectColumns : ℕ → List Float → ℕ → List ℕ → List Float
+selectColumns n a k l = tabM n k (λ i j. cell a n i (index l j))
+
+-- a loop down column j of a matrix of n rows: its first k entries become g 0, .., g (k - 1)
+unfoldable pub putColumn : ℕ → ℕ → ℕ → (ℕ → Float) → List Float → List Float
+putColumn k n j g a = fold k (λ i l. put l n i j (g i)) a
