@@ -1,0 +1,2 @@
+pub mod Pivoting
+pub mod Laws
