@@ -123,11 +123,11 @@ pub fn total_less(a: f64, b: f64) -> bool
     if a < b {
         return true;
     }
-    if a != b {
+    if a == b {
+        if is_negative(a) {
+            return !is_negative(b);
+        }
         return false;
-    }
-    if is_negative(a) {
-        return !is_negative(b);
     }
     false
 }

@@ -1,4 +1,5 @@
 pub mod Fold
 pub mod Cell
 pub mod Tab
+pub mod Part
 pub mod Kit

@@ -6,7 +6,7 @@ use mathlib.Core.Logic.{⊎-elim}
 use native.Mathlib.Nat.{not-suc-le-zero, eq-or-lt-of-le, le-of-suc-le-suc, mul-zero, mul-suc, mul-comm}
 use native.Mathlib.Omega.{arith}
 use lib.ListN.{length, set, take, drop, getD, length-append, length-drop, take-append-drop, List·getD-append}
-use lib.Seq.{drop-cons, set-at, take-at, drop-at, drop-drop, drop-length, length-take-le, getD-at, getD-append-add, getD-drop, ext-getD}
+use lib.Seq.{drop-cons, set-at, take-at, drop-at, drop-drop, drop-length, length-take-le, getD-at, getD-append-add, getD-drop, getD-take, ext-getD}
 use Rattle.folds.specs.Fold.{fold, tab, tabM, over}
 
 module _ {A : Type 0} where
@@ -128,3 +128,13 @@ module _ {A : Type 0} where
   pub over-all : (l o : List A) → length l ≡ length o → over l o ≡ l
   unfolding over
   over-all l o e = rw (e, drop-length, append-nil)
+
+  -- the n elements from b on
+  pub part-tab : (d : A) (b n : ℕ) (l : List A) → b + n ≤ length l → take n (drop b l) ≡ tab n (λ i. getD l (i + b) d)
+  part-tab d b n l h =
+      let g : ℕ → A = λ i. getD l (i + b) d in
+      let m : length (take n (drop b l)) ≡ n = length-take-le n (drop b l) (simp length-drop (omega arith)) in
+      ext-getD d (take n (drop b l)) (tab n g) (m ∙ sym (length-tab n g))
+      (λ i k. let j : i < n = omega arith in
+          let z : b + i ≡ i + b = omega arith in
+          rw (getD-take n (drop b l) i d j, getD-drop b l i d, z, getD-tab d n i g j))

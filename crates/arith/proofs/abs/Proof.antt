@@ -1,4 +1,5 @@
-use Rattle.folds.specs.Kit.{_≡_, _-_, _≤_, length, fold, kit}
+use Rattle.folds.specs.Kit.{sym, _∙_, needs}
+use Rattle.arith.proofs.Cases.{abs-negative, abs-positive}
 use Rattle.arith.proofs.abs.Statement.{statement}
 use Rattle.arith.proofs.abs.Tie as tie
 
@@ -6,6 +7,6 @@ pub abs-spec : {M : Type 1} → statement M
 abs-spec =
     tie.close
     (tie.spec
-    (λ c κs. search kit)  -- is-negative-requires
-    (λ c. search kit)  -- returns
-    (λ c. search kit))  -- returns-2
+    (λ c κs. search needs)  -- is-negative-requires
+    (λ c. abs-negative (c .before .before .args .x) (sym (c .before .is-negative .ensures) ∙ c .if1 .taken))  -- returns
+    (λ c. abs-positive (c .before .before .args .x) (sym (c .before .is-negative .ensures) ∙ c .if1 .left)))  -- returns-2

@@ -1,11 +1,13 @@
-use Rattle.folds.specs.Kit.{_≡_, _-_, _≤_, length, fold, kit}
+use Rattle.folds.specs.Kit.{pick}
+use Rattle.arith.specs.Scalar.{clamp}
 use Rattle.arith.proofs.clamp.Statement.{statement}
 use Rattle.arith.proofs.clamp.Tie as tie
 
 pub clamp-spec : {M : Type 1} → statement M
+unfolding clamp pick
 clamp-spec =
     tie.close
     (tie.spec
-    (λ c. search kit)  -- returns
-    (λ c. search kit)  -- returns-2
-    (λ c. search kit))  -- returns-3
+    (λ c. rw (c .if1 .taken))  -- returns
+    (λ c. rw (c .before .if1 .left, c .if2 .taken))  -- returns-2
+    (λ c. rw (c .before .if1 .left, c .if2 .left)))  -- returns-3

@@ -1,4 +1,4 @@
-use Rattle.folds.specs.Kit.{_≡_, _-_, _≤_, length, fold, kit}
+use Rattle.arith.proofs.Cases.{plus-inf, minus-inf, at-inf, not-at-inf}
 use Rattle.arith.proofs.is_infinite.Statement.{statement}
 use Rattle.arith.proofs.is_infinite.Tie as tie
 
@@ -6,5 +6,5 @@ pub is-infinite-spec : {M : Type 1} → statement M
 is-infinite-spec =
     tie.close
     (tie.spec
-    (λ c. search kit)  -- returns
-    (λ c. search kit))  -- returns-2
+    (λ c. at-inf (c .before .args .x) (rw plus-inf at (c .if1 .taken)))  -- returns
+    (λ c. rw minus-inf (not-at-inf (c .before .args .x) (rw plus-inf at (c .if1 .left)))))  -- returns-2

@@ -1,0 +1,23 @@
+use Rattle.folds.specs.Kit.{_≡_, _-_, _≤_, length, fold, over-kit}
+use Rattle.matrix.specs.Matrix.{unit, putColumn, identity}
+use Rattle.matrix.proofs.identity.Statement.{statement}
+use Rattle.matrix.proofs.identity.Tie as tie
+
+abbrev Inv-loop : tie.InvT-loop
+Inv-loop a₀ n j₀ a j = (j ≤ n) × (length a ≡ length a₀) × (a ≡ fold j (λ t l. putColumn n n t (λ i. unit i t) l) a₀)
+
+abbrev μ-loop : tie.MeasureT-loop
+μ-loop a₀ n j₀ a j = n - j
+
+pub identity-spec : {M : Type 1} → statement M
+unfolding identity putColumn
+identity-spec =
+    tie.close
+    (tie.spec Inv-loop μ-loop
+    (λ c. search over-kit)  -- loop-holds
+    (λ c κs. search over-kit)  -- identity-column-requires
+    (λ c. search over-kit)  -- add-j
+    (λ c. search over-kit)  -- loop-less
+    (λ c. search over-kit)  -- loop-again
+    (λ c. search over-kit)  -- same-length
+    (λ c. search over-kit))  -- returns

@@ -1,0 +1,24 @@
+use Rattle.folds.specs.Kit.{_≡_, _-_, _≤_, arith, length, fold, fold-call, kit}
+use Rattle.matrix.specs.Matrix.{unit, putColumn}
+use Rattle.matrix.proofs.identity_column.Statement.{statement}
+use Rattle.matrix.proofs.identity_column.Tie as tie
+
+abbrev Inv-loop : tie.InvT-loop
+Inv-loop a₀ n j i₀ a i = (i ≤ n) × (length a ≡ length a₀) × (a ≡ putColumn i n j (λ t. unit t j) a₀)
+
+abbrev μ-loop : tie.MeasureT-loop
+μ-loop a₀ n j i₀ a i = n - i
+
+pub identity-column-spec : {M : Type 1} → statement M
+unfolding putColumn
+identity-column-spec =
+    tie.close
+    (tie.spec Inv-loop μ-loop
+    (λ c. search kit)  -- loop-holds
+    (λ c κs. search kit)  -- unit-requires
+    (λ c κs. search kit)  -- put-requires
+    (λ c. search kit)  -- add-i
+    (λ c. search kit)  -- loop-less
+    (λ c. let p = c .before .before in let at = p .before .before .before .before .loop in (omega arith, omega arith, fold-call _ _ _ (at .inv .2) (rw (p .put .ensures, p .before .before .unit .ensures))))  -- loop-again
+    (λ c. search kit)  -- same-length
+    (λ c. search kit))  -- returns

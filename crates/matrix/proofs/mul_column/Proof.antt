@@ -1,0 +1,24 @@
+use Rattle.folds.specs.Kit.{_≡_, _-_, _≤_, arith, length, fold, fold-call, kit}
+use Rattle.matrix.specs.Matrix.{cellDot, putColumn}
+use Rattle.matrix.proofs.mul_column.Statement.{statement}
+use Rattle.matrix.proofs.mul_column.Tie as tie
+
+abbrev Inv-loop : tie.InvT-loop
+Inv-loop a n p b m j c₀ i₀ c i = (i ≤ n) × (length c ≡ length c₀) × (c ≡ putColumn i n j (λ t. cellDot n p a b t j) c₀)
+
+abbrev μ-loop : tie.MeasureT-loop
+μ-loop a n p b m j c₀ i₀ c i = n - i
+
+pub mul-column-spec : {M : Type 1} → statement M
+unfolding putColumn
+mul-column-spec =
+    tie.close
+    (tie.spec Inv-loop μ-loop
+    (λ c. search kit)  -- loop-holds
+    (λ c κs. search kit)  -- cell-dot-requires
+    (λ c κs. search kit)  -- put-requires
+    (λ c. search kit)  -- add-i
+    (λ c. search kit)  -- loop-less
+    (λ c. let p = c .before .before in let at = p .before .before .before .before .loop in (omega arith, omega arith, fold-call _ _ _ (at .inv .2) (rw (p .put .ensures, p .before .before .cell-dot .ensures))))  -- loop-again
+    (λ c. search kit)  -- same-length
+    (λ c. search kit))  -- returns

@@ -1,0 +1,23 @@
+use Rattle.folds.specs.Kit.{_≡_, _-_, _≤_, length, fold, over-kit}
+use Rattle.matrix.specs.Matrix.{columnsDot, putColumn, trMul}
+use Rattle.matrix.proofs.tr_mul.Statement.{statement}
+use Rattle.matrix.proofs.tr_mul.Tie as tie
+
+abbrev Inv-loop : tie.InvT-loop
+Inv-loop a n p b m c₀ j₀ c j = (j ≤ m) × (length c ≡ length c₀) × (c ≡ fold j (λ t l. putColumn p p t (λ i. columnsDot n a b i t) l) c₀)
+
+abbrev μ-loop : tie.MeasureT-loop
+μ-loop a n p b m c₀ j₀ c j = m - j
+
+pub tr-mul-spec : {M : Type 1} → statement M
+unfolding trMul putColumn
+tr-mul-spec =
+    tie.close
+    (tie.spec Inv-loop μ-loop
+    (λ c. search over-kit)  -- loop-holds
+    (λ c κs. search over-kit)  -- tr-mul-column-requires
+    (λ c. search over-kit)  -- add-j
+    (λ c. search over-kit)  -- loop-less
+    (λ c. search over-kit)  -- loop-again
+    (λ c. search over-kit)  -- same-length
+    (λ c. search over-kit))  -- returns

@@ -1,0 +1,23 @@
+use Rattle.folds.specs.Kit.{_≡_, _-_, _≤_, length, fold, over-kit}
+use Rattle.matrix.specs.Matrix.{cell, putColumn, transpose}
+use Rattle.matrix.proofs.transpose.Statement.{statement}
+use Rattle.matrix.proofs.transpose.Tie as tie
+
+abbrev Inv-loop : tie.InvT-loop
+Inv-loop a n m b₀ j₀ b j = (j ≤ n) × (length b ≡ length b₀) × (b ≡ fold j (λ t l. putColumn m m t (λ i. cell a n t i) l) b₀)
+
+abbrev μ-loop : tie.MeasureT-loop
+μ-loop a n m b₀ j₀ b j = n - j
+
+pub transpose-spec : {M : Type 1} → statement M
+unfolding transpose putColumn
+transpose-spec =
+    tie.close
+    (tie.spec Inv-loop μ-loop
+    (λ c. search over-kit)  -- loop-holds
+    (λ c κs. search over-kit)  -- transpose-column-requires
+    (λ c. search over-kit)  -- add-j
+    (λ c. search over-kit)  -- loop-less
+    (λ c. search over-kit)  -- loop-again
+    (λ c. search over-kit)  -- same-length
+    (λ c. search over-kit))  -- returns

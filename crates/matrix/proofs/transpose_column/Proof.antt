@@ -1,0 +1,24 @@
+use Rattle.folds.specs.Kit.{_≡_, _-_, _≤_, arith, length, fold, fold-call, kit}
+use Rattle.matrix.specs.Matrix.{cell, putColumn}
+use Rattle.matrix.proofs.transpose_column.Statement.{statement}
+use Rattle.matrix.proofs.transpose_column.Tie as tie
+
+abbrev Inv-loop : tie.InvT-loop
+Inv-loop a n m j b₀ i₀ b i = (i ≤ m) × (length b ≡ length b₀) × (b ≡ putColumn i m j (λ t. cell a n j t) b₀)
+
+abbrev μ-loop : tie.MeasureT-loop
+μ-loop a n m j b₀ i₀ b i = m - i
+
+pub transpose-column-spec : {M : Type 1} → statement M
+unfolding putColumn
+transpose-column-spec =
+    tie.close
+    (tie.spec Inv-loop μ-loop
+    (λ c. search kit)  -- loop-holds
+    (λ c κs. search kit)  -- get-requires
+    (λ c κs. search kit)  -- put-requires
+    (λ c. search kit)  -- add-i
+    (λ c. search kit)  -- loop-less
+    (λ c. let p = c .before .before in let at = p .before .before .before .before .loop in (omega arith, omega arith, fold-call _ _ _ (at .inv .2) (rw (p .put .ensures, p .before .before .get .ensures))))  -- loop-again
+    (λ c. search kit)  -- same-length
+    (λ c. search kit))  -- returns

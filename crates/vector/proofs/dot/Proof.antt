@@ -1,0 +1,25 @@
+use Rattle.folds.specs.Kit.{_≡_, _-_, _≤_, kit}
+use Rattle.vector.specs.Vector.{dot}
+use Rattle.vector.proofs.dot.Statement.{statement}
+use Rattle.vector.proofs.dot.Tie as tie
+
+abbrev Inv-loop : tie.InvT-loop
+Inv-loop a b n s₀ k₀ s k = (k ≤ n) × (s ≡ dot k a b)
+
+abbrev μ-loop : tie.MeasureT-loop
+μ-loop a b n s₀ k₀ s k = n - k
+
+pub dot-spec : {M : Type 1} → statement M
+unfolding dot
+dot-spec =
+    tie.close
+    (tie.spec Inv-loop μ-loop
+    (λ c. search kit)  -- loop-holds
+    (λ c. search kit)  -- mul-s
+    (λ c. search kit)  -- shared-slice-read-s
+    (λ c. search kit)  -- mul-s-2
+    (λ c. search kit)  -- shared-slice-read-s-2
+    (λ c. search kit)  -- add-k
+    (λ c. search kit)  -- loop-less
+    (λ c. search kit)  -- loop-again
+    (λ c. search kit))  -- returns

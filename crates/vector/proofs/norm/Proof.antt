@@ -1,0 +1,13 @@
+use Rattle.folds.specs.Kit.{needs}
+use Rattle.vector.specs.Vector.{norm}
+use Rattle.vector.proofs.norm.Statement.{statement}
+use Rattle.vector.proofs.norm.Tie as tie
+
+pub norm-spec : {M : Type 1} → statement M
+unfolding norm
+norm-spec =
+  tie.close
+  (tie.spec
+  (λ c κs. search needs) -- sum-squares-requires
+  (λ c κs. search needs) -- sqrt-requires
+  (λ c. rw (c .sqrt .ensures, c .before .sum-squares .ensures))) -- returns

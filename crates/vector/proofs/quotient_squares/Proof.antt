@@ -1,0 +1,23 @@
+use Rattle.folds.specs.Kit.{_≡_, _-_, _≤_, kit}
+use Rattle.vector.specs.Vector.{quotientSquares}
+use Rattle.vector.proofs.quotient_squares.Statement.{statement}
+use Rattle.vector.proofs.quotient_squares.Tie as tie
+
+abbrev Inv-loop : tie.InvT-loop
+Inv-loop a n by s₀ k₀ s k = (k ≤ n) × (s ≡ quotientSquares k a by)
+
+abbrev μ-loop : tie.MeasureT-loop
+μ-loop a n by s₀ k₀ s k = n - k
+
+pub quotient-squares-spec : {M : Type 1} → statement M
+unfolding quotientSquares
+quotient-squares-spec =
+    tie.close
+    (tie.spec Inv-loop μ-loop
+    (λ c. search kit)  -- loop-holds
+    (λ c. search kit)  -- mul-q
+    (λ c. search kit)  -- shared-slice-read-q
+    (λ c. search kit)  -- add-k
+    (λ c. search kit)  -- loop-less
+    (λ c. search kit)  -- loop-again
+    (λ c. search kit))  -- returns
