@@ -1,15 +1,15 @@
 -- qp.rs, `Constraints::new`: E = YT, with Y an orthonormal basis for E's range, by Gram-Schmidt with column pivoting and reorthogonalization.
 -- E is n by m, p = min(n, m). Y has n rows and p columns, of which the first `rank` count; T has p rows, of which the first `rank` count, and m columns.
-use Prim.Native.Nat.{ℕ, _+_, _*_, _<_, min, max}
+use Prim.Native.Nat.{ℕ, _+_, _*_, _≤_, max}
 use mathlib.Core.Bool.{Bool, true, false}
 use mathlib.Core.List.{List}
 use lib.ListN.{set, getD, replicate}
 use lib.Ieee.{Float, le}
-use Rattle.folds.specs.Fold.{fold, walk, pick, Out, out}
+use Rattle.folds.specs.Fold.{fold, walk, pick, Out, out, ended}
 use Rattle.folds.specs.Part.{Two, two}
 use Rattle.arith.specs.Float.{fadd, fsub, fmul, f0, epsilon, fromℕ, at}
 use Rattle.arith.specs.Scalar.{max as fmax, totalLess}
-use Rattle.vector.specs.Vector.{dot, norm, divided, copy, filled}
+use Rattle.vector.specs.Vector.{dot, norm, divided, copy, filled, Below}
 use Rattle.matrix.specs.Matrix.{cell, put, putColumn, column}
 use Rattle.pivoting.specs.declared.Largest.{Largest}
 use Rattle.pivoting.specs.declared.Largest.the-variants.{Found, Nothing}
@@ -89,10 +89,6 @@ unfoldable pub pivotStep : ℕ → ℕ → ℕ → Float → ℕ → Pivoting �
 pivotStep n m p tol row (pivoting left coefficients basis pivots) =
     choose n m p tol row (largestColumn n m left (pivots .remaining)) (pivoting left coefficients basis pivots)
 
--- the state where a loop ended, by itself or stopped
-unfoldable pub ended : {A : Type 0} → Out A → A
-ended (out more s) = s
-
 -- `while basis.len() < n`: at most min(n, m) turns, after which no column remains or the basis is full
 unfoldable pub pivoted : ℕ → ℕ → ℕ → Float → Pivoting → Pivoting
 pivoted n m p tol s = ended (walk p (pivotStep n m p tol) s)
@@ -104,3 +100,8 @@ noPivots = record { column = replicate 24 0; remaining = replicate 24 true; rank
 -- the whole, from E
 unfoldable pub factored : ℕ → ℕ → ℕ → List Float → Pivoting
 factored n m p e = pivoted n m p (tolerance n m e) (pivoting (copy (n * m) e) (filled (p * m) f0) (filled (n * p) f0) noPivots)
+
+-- the columns taken are at most p, each one of E's m
+pub record Taken (p m : ℕ) (pivots : Pivots) : Type 0 where
+  pub few : pivots .rank ≤ p
+  pub columns : Below (pivots .rank) (pivots .column) m

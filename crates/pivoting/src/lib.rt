@@ -10,7 +10,7 @@ ghost use Rattle.arith.specs.Float.{f0, at};
 ghost use Rattle.vector.specs.Vector.{filled};
 ghost use Rattle.matrix.specs.Matrix.{putColumn};
 ghost use Rattle.pivoting.specs.Pivoting as Pivoting;
-ghost use Rattle.pivoting.specs.Pivoting.{pivoting};
+ghost use Rattle.pivoting.specs.Pivoting.{pivoting, Taken};
 
 // The remaining column of the largest norm, as `max_by` has it.
 pub enum Largest {
@@ -226,4 +226,24 @@ fn pivoted(left: &mut [f64], coefficients: &mut [f64], basis: &mut [f64], n: usi
         }
     }
     pivots
+}
+
+fn no_pivots() -> Pivots
+    ensures { λ r. ⌜ r ≡ Pivoting.noPivots ⌝ }
+{
+    Pivots {
+        column: [0; 24],
+        remaining: [true; 24],
+        rank: 0,
+    }
+}
+
+// E = YT. T and Y start as zeros.
+pub fn factored(e: &[f64], n: usize, m: usize, p: usize, left: &mut [f64], coefficients: &mut [f64], basis: &mut [f64]) -> Pivots
+    requires { ⌜ (n * m ≤ length (now e)) × (length (now left) ≡ n * m) × (now coefficients ≡ filled (p * m) f0) × (now basis ≡ filled (n * p) f0) × (p ≤ m) × (n ≤ 48) × (m ≤ 24) ⌝ }
+    ensures { λ r. ⌜ pivoting (now (left .exit)) (now (coefficients .exit)) (now (basis .exit)) r ≡ Pivoting.factored n m p (now (e .entry)) ⌝ }
+    ensures { λ r. ⌜ Taken p m r ⌝ }
+{
+    vector::copy(e, n * m, left);
+    pivoted(left, coefficients, basis, n, m, p, tolerance(e, n, m), no_pivots())
 }
