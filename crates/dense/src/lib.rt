@@ -37,9 +37,7 @@ pub fn divided(a: &[f64], n: usize, by: f64) -> [f64; 48]
     ensures { λ r. ⌜ take n r ≡ Vector.divided n (now (a .entry)) by ⌝ }
 {
     let mut y = [0.0; 48];
-    for k in 0..n {
-        y[k] = a[k] / by;
-    }
+    vector::divided(a, n, by, &mut y);
     y
 }
 
@@ -68,9 +66,7 @@ pub fn divided_matrix(a: &[f64], n: usize, m: usize, by: f64) -> [f64; 1024]
     ensures { λ r. ⌜ take (n * m) r ≡ Vector.divided (n * m) (now (a .entry)) by ⌝ }
 {
     let mut y = [0.0; 1024];
-    for k in 0..n * m {
-        y[k] = a[k] / by;
-    }
+    vector::divided(a, n * m, by, &mut y);
     y
 }
 

@@ -146,5 +146,14 @@ module _ {A : Type 0} where
       let m : length (take n (drop b l)) ≡ n = length-take-le n (drop b l) (simp length-drop (omega arith)) in
       ext-getD d (take n (drop b l)) (tab n g) (m ∙ sym (length-tab n g))
       (λ i k. let j : i < n = omega arith in
-          let z : b + i ≡ i + b = omega arith in
-          rw (getD-take n (drop b l) i d j, getD-drop b l i d, z, getD-tab d n i g j))
+      let z : b + i ≡ i + b = omega arith in
+      rw (getD-take n (drop b l) i d j, getD-drop b l i d, z, getD-tab d n i g j))
+
+  -- the part that was written
+  pub taken-tab : {r : List A} (n : ℕ) (g : ℕ → A) (o : List A) → r ≡ over (tab n g) o → take n r ≡ tab n g
+  unfolding over
+  taken-tab n g o e = rw (e, take-at (tab n g) (drop (length (tab n g)) o) n (length-tab n g))
+
+  pub taken-tabM : {r : List A} (n m : ℕ) (g : ℕ → ℕ → A) (o : List A) → r ≡ over (tabM n m g) o → take (n * m) r ≡ tabM n m g
+  unfolding over
+  taken-tabM n m g o e = rw (e, take-at (tabM n m g) (drop (length (tabM n m g)) o) (n * m) (length-tabM n m g))

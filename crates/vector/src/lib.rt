@@ -198,6 +198,15 @@ pub fn div(a: &[f64], b: &[f64], n: usize, y: &mut [f64])
     }
 }
 
+pub fn divided(a: &[f64], n: usize, by: f64, y: &mut [f64])
+    requires { ⌜ (n ≤ length (now a)) × (n ≤ length (now y)) ⌝ }
+    ensures { λ _. ⌜ now (y .exit) ≡ over (Vector.divided n (now (a .entry)) by) (now (y .entry)) ⌝ }
+{
+    for k in 0..n {
+        y[k] = a[k] / by;
+    }
+}
+
 pub fn add_scalar(a: &[f64], n: usize, v: f64, y: &mut [f64])
     requires { ⌜ (n ≤ length (now a)) × (n ≤ length (now y)) ⌝ }
     ensures { λ _. ⌜ now (y .exit) ≡ over (Vector.addScalar n (now (a .entry)) v) (now (y .entry)) ⌝ }
