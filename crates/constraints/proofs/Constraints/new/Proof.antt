@@ -1,0 +1,75 @@
+use Rattle.folds.specs.Kit.{_≡_, _+_, _-_, _*_, _<_, _≤_, arith, length, set, getD, fold, fold-call, needs, kit, sym}
+use Rattle.constraints.specs.Laws.{area, take-zeros, new-from}
+use lib.Seq.{length-take-le}
+use lib.Seq.{take-append-le, take-at}
+use Rattle.constraints.proofs.Constraints.new.Statement.{statement}
+use Rattle.constraints.proofs.Constraints.new.Tie as tie
+
+p-m : (c : tie.After-smaller-of) → c .smaller-of .result ≤ c .before .before .args .m
+p-m c = omega arith
+
+p-n : (c : tie.After-smaller-of) → c .smaller-of .result ≤ c .before .before .args .n
+p-n c = omega arith
+
+entries-le : (c : tie.Start) → c .args .n * c .args .m ≤ 768
+entries-le c = area {x = 32} {y = 24} (c .pre .1) (c .pre .2)
+
+t-le : (c : tie.After-smaller-of) → c .smaller-of .result * c .before .before .args .m ≤ 576
+t-le c = area {x = 24} {y = 24} (omega (arith, p-m c)) (c .before .before .pre .2)
+
+y-le : (c : tie.After-smaller-of) → c .before .before .args .n * c .smaller-of .result ≤ 768
+y-le c = area {x = 32} {y = 24} (c .before .before .pre .1) (omega (arith, p-m c))
+
+smaller-of-requires : tie.Need-smaller-of-requires
+smaller-of-requires c κs = search kit
+
+mul-entries : tie.Need-mul-entries
+mul-entries c = omega (arith, entries-le (c .before .before))
+
+mul-t : tie.Need-mul-t
+mul-t c = omega (arith, t-le c)
+
+mul-y : tie.Need-mul-y
+mul-y c = omega (arith, y-le c)
+
+array-borrow-prefix-left : tie.Need-array-borrow-prefix-left
+array-borrow-prefix-left c = omega (arith, entries-le (c .before .before))
+
+slice-aggregate-factored : tie.Need-slice-aggregate-factored
+slice-aggregate-factored c = sym (length-take-le _ _ (omega (arith, entries-le (c .before .before .before))))
+
+array-borrow-prefix-coefficients : tie.Need-array-borrow-prefix-coefficients
+array-borrow-prefix-coefficients c = omega (arith, t-le (c .before))
+
+slice-aggregate-factored-2 : tie.Need-slice-aggregate-factored-2
+slice-aggregate-factored-2 c = sym (length-take-le _ _ (omega (arith, t-le (c .before .before))))
+
+array-borrow-prefix-range : tie.Need-array-borrow-prefix-range
+array-borrow-prefix-range c = omega (arith, y-le (c .before .before))
+
+slice-aggregate-factored-3 : tie.Need-slice-aggregate-factored-3
+slice-aggregate-factored-3 c = sym (length-take-le _ _ (omega (arith, y-le (c .before .before .before))))
+
+factored-requires : tie.Need-factored-requires
+factored-requires c κs = 
+    let s = c .before .before .before in
+    let r = c .before .before .before .before .before .pre in
+    (r .0, length-take-le _ _ (omega (arith, entries-le (c .before .before .before .before .before))), take-zeros _ _ (t-le s), take-zeros _ _ (y-le s), p-m s, omega (arith, r .1), r .2)
+
+mul-columns : tie.Need-mul-columns
+mul-columns c = ?
+
+array-share-prefix-range : tie.Need-array-share-prefix-range
+array-share-prefix-range c = ?
+
+slice-aggregate-null-space : tie.Need-slice-aggregate-null-space
+slice-aggregate-null-space c = ?
+
+null-space-requires : tie.Need-null-space-requires
+null-space-requires c κs = ?
+
+returns : tie.Need-returns
+returns c = ?
+
+pub new-spec : {M : Type 1} → statement M
+new-spec = tie.close (tie.spec smaller-of-requires mul-entries mul-t mul-y array-borrow-prefix-left slice-aggregate-factored array-borrow-prefix-coefficients slice-aggregate-factored-2 array-borrow-prefix-range slice-aggregate-factored-3 factored-requires mul-columns array-share-prefix-range slice-aggregate-null-space null-space-requires returns)

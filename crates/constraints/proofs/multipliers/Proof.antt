@@ -1,0 +1,38 @@
+use Rattle.folds.specs.Kit.{_≡_, _+_, _-_, _*_, _<_, _≤_, arith, length, set, getD, fold, fold-call, needs, kit, sym}
+use Rattle.constraints.specs.Laws.{take-zeros, multipliers-from}
+use lib.Seq.{length-take-le}
+use lib.Seq.{take-at}
+use Rattle.constraints.proofs.multipliers.Statement.{statement}
+use Rattle.constraints.proofs.multipliers.Tie as tie
+
+h-length : (c : tie.After-tr-mul-vec) → length (c .tr-mul-vec .result) ≡ 48
+h-length c = search needs
+
+smaller-of-requires : tie.Need-smaller-of-requires
+smaller-of-requires c κs = search kit
+
+tr-mul-vec-requires : tie.Need-tr-mul-vec-requires
+tr-mul-vec-requires c κs = let r = c .before .before .before .before .before .pre in (omega (arith, r .4, r .6), r .0, r .2)
+
+array-share-prefix-h : tie.Need-array-share-prefix-h
+array-share-prefix-h c = omega (arith, c .before .before .before .before .before .before .pre .4, c .before .before .before .before .before .before .pre .6)
+
+slice-aggregate-backward : tie.Need-slice-aggregate-backward
+slice-aggregate-backward c = sym (length-take-le _ _ (omega (arith, h-length (c .before), c .before .before .before .before .before .before .before .pre .4, c .before .before .before .before .before .before .before .pre .6)))
+
+array-borrow-prefix-lambda : tie.Need-array-borrow-prefix-lambda
+array-borrow-prefix-lambda c = search kit
+
+slice-aggregate-backward-2 : tie.Need-slice-aggregate-backward-2
+slice-aggregate-backward-2 c = sym (length-take-le _ _ (omega (arith, c .before .before .before .before .before .before .before .before .pre .6)))
+
+backward-requires : tie.Need-backward-requires
+backward-requires c κs = 
+    let r = c .before .before .before .before .before .before .before .before .pre in
+    (rw (c .before .before .before .smaller-of .ensures) (r .1), omega (arith, slice-aggregate-backward (c .before)), r .3, omega (arith, c .before .before .before .smaller-of .ensures, r .4), r .5, omega (arith, slice-aggregate-backward-2 c))
+
+returns : tie.Need-returns
+returns c = ?
+
+pub multipliers-spec : {M : Type 1} → statement M
+multipliers-spec = tie.close (tie.spec smaller-of-requires tr-mul-vec-requires array-share-prefix-h slice-aggregate-backward array-borrow-prefix-lambda slice-aggregate-backward-2 backward-requires returns)

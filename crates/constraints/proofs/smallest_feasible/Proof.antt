@@ -1,0 +1,35 @@
+use Rattle.folds.specs.Kit.{_≡_, _+_, _-_, _*_, _<_, _≤_, arith, length, set, getD, fold, fold-call, needs, kit, sym}
+use Rattle.constraints.specs.Laws.{take-zeros, smallest-from}
+use lib.Seq.{length-take-le}
+use lib.Seq.{take-at}
+use Rattle.constraints.proofs.smallest_feasible.Statement.{statement}
+use Rattle.constraints.proofs.smallest_feasible.Tie as tie
+
+smaller-of-requires : tie.Need-smaller-of-requires
+smaller-of-requires c κs = search kit
+
+array-borrow-prefix-u : tie.Need-array-borrow-prefix-u
+array-borrow-prefix-u c = omega (arith, c .before .before .before .before .before .pre .4, c .before .before .before .before .before .pre .6)
+
+slice-aggregate-forward : tie.Need-slice-aggregate-forward
+slice-aggregate-forward c = sym (length-take-le _ _ (omega (arith, c .before .before .before .before .before .before .pre .4, c .before .before .before .before .before .before .pre .6)))
+
+forward-requires : tie.Need-forward-requires
+forward-requires c κs = 
+    let r = c .before .before .before .before .before .before .pre in
+    (rw (c .before .smaller-of .ensures) (r .1), r .2, r .3, omega (arith, c .before .smaller-of .ensures, r .4), r .5, omega (arith, slice-aggregate-forward c))
+
+array-share-prefix-u : tie.Need-array-share-prefix-u
+array-share-prefix-u c = ?
+
+slice-aggregate-mul-vec : tie.Need-slice-aggregate-mul-vec
+slice-aggregate-mul-vec c = ?
+
+mul-vec-requires : tie.Need-mul-vec-requires
+mul-vec-requires c κs = ?
+
+returns : tie.Need-returns
+returns c = ?
+
+pub smallest-feasible-spec : {M : Type 1} → statement M
+smallest-feasible-spec = tie.close (tie.spec smaller-of-requires array-borrow-prefix-u slice-aggregate-forward forward-requires array-share-prefix-u slice-aggregate-mul-vec mul-vec-requires returns)
