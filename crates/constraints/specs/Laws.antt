@@ -39,12 +39,12 @@ pub transposed-from : {reflectors reflected q r : List Float} {made marked : Lis
 unfolding qTranspose applied
 transposed-from n rank range a b c g h = h ∙ rw (c, ← a, ← b, ← g)
 
-pub new-from : {left t coefficients y range null : List Float} {pivots : Pivots} (n m p : ℕ) (e : List Float) →
+pub new-from : {left t y : List Float} {pivots : Pivots} (n m p : ℕ) (e range null coefficients : List Float) →
     p ≡ min n m → pivoting left t y pivots ≡ factored n m p e → take (n * pivots .rank) range ≡ take (n * pivots .rank) y →
     take (n * (n - pivots .rank)) null ≡ nullSpace n (pivots .rank) (take (n * pivots .rank) range) → take (p * m) coefficients ≡ t →
     constraintsOf n m (record { range = range; null = null; coefficients = coefficients; pivots = pivots }) ≡ new n m e
 unfolding constraintsOf new completed
-new-from n m p e a g h i j = rw (← a, ← g, i, h, j)
+new-from n m p e range null coefficients a g h i j = rw (← a, ← g, i, h, j)
 
 pub smallest-from : {x u v z : List Float} {p : ℕ} (n m : ℕ) (range coefficients b : List Float) (pivots : List ℕ) (rank : ℕ) →
     p ≡ min n m → z ≡ filled rank f0 → u ≡ forward p coefficients b pivots rank z → v ≡ u → x ≡ mulVec n rank range v →

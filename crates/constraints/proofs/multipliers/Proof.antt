@@ -1,4 +1,4 @@
-use Rattle.folds.specs.Kit.{_≡_, _+_, _-_, _*_, _<_, _≤_, arith, length, set, getD, fold, fold-call, needs, kit, sym}
+use Rattle.folds.specs.Kit.{_≡_, _+_, _-_, _*_, _<_, _≤_, arith, length, set, getD, fold, fold-call, needs, kit, sym, _∙_}
 use Rattle.constraints.specs.Laws.{take-zeros, multipliers-from}
 use lib.Seq.{length-take-le}
 use lib.Seq.{take-at}
@@ -31,8 +31,14 @@ backward-requires c κs =
     let r = c .before .before .before .before .before .before .before .before .pre in
     (rw (c .before .before .before .smaller-of .ensures) (r .1), omega (arith, slice-aggregate-backward (c .before)), r .3, omega (arith, c .before .before .before .smaller-of .ensures, r .4), r .5, omega (arith, slice-aggregate-backward-2 c))
 
+lambda-length : (c : tie.After-backward) → length (c .backward .last .1 .1 .1 .1 .1 .1 .0) ≡ c .before .before .before .before .before .before .before .before .before .args .m
+lambda-length c = c .backward .kept .1 .1 .1 .1 .1 .1 .0 ∙ sym (slice-aggregate-backward-2 (c .before))
+
 returns : tie.Need-returns
-returns c = ?
+returns c = 
+    let s = c .before .before .before .before .before .before .before .before .before .before in
+    let a = s .args in
+    multipliers-from (a .n) (a .m) (a .range .now) (a .coefficients .now) (a .g .now) (a .pivots .now) (a .rank) (c .before .before .before .before .before .smaller-of .ensures) (take-zeros (a .m) 24 (s .pre .6)) (c .before .before .before .before .tr-mul-vec .ensures) (c .before .backward .ensures) (take-at _ _ _ (lambda-length (c .before)))
 
 pub multipliers-spec : {M : Type 1} → statement M
 multipliers-spec = tie.close (tie.spec smaller-of-requires tr-mul-vec-requires array-share-prefix-h slice-aggregate-backward array-borrow-prefix-lambda slice-aggregate-backward-2 backward-requires returns)

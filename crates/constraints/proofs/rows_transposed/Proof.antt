@@ -5,7 +5,7 @@ use Rattle.constraints.proofs.rows_transposed.Statement.{statement}
 use Rattle.constraints.proofs.rows_transposed.Tie as tie
 
 entries-le : (c : tie.Start) → c .args .n * c .args .d ≤ 1024
-entries-le c = area (c .pre .2) (omega arith)
+entries-le c = area {x = 32} {y = 32} (c .pre .2) (omega arith)
 
 slice-aggregate-rows-transposed-in : tie.Need-slice-aggregate-rows-transposed-in
 slice-aggregate-rows-transposed-in c = search kit

@@ -1,7 +1,9 @@
-use Rattle.folds.specs.Kit.{_≡_, _+_, _-_, _*_, _<_, _≤_, arith, length, set, getD, fold, fold-call, needs, kit, sym}
+use Rattle.folds.specs.Kit.{_≡_, _+_, _-_, _*_, _<_, _≤_, arith, length, set, getD, fold, fold-call, needs, kit, sym, _∙_}
 use Rattle.constraints.specs.Laws.{area, take-zeros, new-from}
+use lib.ListN.{length-append}
 use lib.Seq.{length-take-le}
 use lib.Seq.{take-append-le, take-at}
+use native.Mathlib.Nat.{mul-le-mul-left}
 use Rattle.constraints.proofs.Constraints.new.Statement.{statement}
 use Rattle.constraints.proofs.Constraints.new.Tie as tie
 
@@ -56,20 +58,39 @@ factored-requires c κs =
     let r = c .before .before .before .before .before .pre in
     (r .0, length-take-le _ _ (omega (arith, entries-le (c .before .before .before .before .before))), take-zeros _ _ (t-le s), take-zeros _ _ (y-le s), p-m s, omega (arith, r .1), r .2)
 
+columns-le : (c : tie.After-factored) → c .before .before .before .before .before .before .args .n * c .factored .result .rank ≤ c .before .before .before .before .before .before .args .n * c .before .before .before .before .smaller-of .result
+columns-le c = mul-le-mul-left _ (c .factored .ensures .1 .few)
+
+y-length : (c : tie.After-factored) → length (c .factored .last .1 .1 .1 .1 .1 .1 .0) ≡ c .before .before .before .before .before .before .args .n * c .before .before .before .before .smaller-of .result
+y-length c = c .factored .kept .1 .1 .1 .1 .1 .1 .0 ∙ sym (slice-aggregate-factored-3 (c .before))
+
+t-length : (c : tie.After-factored) → length (c .factored .last .1 .1 .1 .1 .1 .0) ≡ c .before .before .before .before .smaller-of .result * c .before .before .before .before .before .before .args .m
+t-length c = c .factored .kept .1 .1 .1 .1 .1 .0 ∙ sym (slice-aggregate-factored-2 (c .before .before))
+
+y-holds : (c : tie.After-factored) → c .before .before .before .before .before .before .args .n * c .factored .result .rank ≤ length (c .factored .last .1 .1 .1 .1 .1 .1 .0)
+y-holds c = rw (y-length c) (columns-le c)
+
 mul-columns : tie.Need-mul-columns
-mul-columns c = ?
+mul-columns c = omega (arith, columns-le (c .before .before .before), y-le (c .before .before .before .before .before .before .before))
 
 array-share-prefix-range : tie.Need-array-share-prefix-range
-array-share-prefix-range c = ?
+array-share-prefix-range c = simp length-append (omega (arith, y-holds (c .before .before .before)))
 
 slice-aggregate-null-space : tie.Need-slice-aggregate-null-space
-slice-aggregate-null-space c = ?
+slice-aggregate-null-space c = sym (length-take-le _ _ (simp length-append (omega (arith, y-holds (c .before .before .before .before)))))
 
 null-space-requires : tie.Need-null-space-requires
-null-space-requires c κs = ?
+null-space-requires c κs = 
+    let r = c .before .before .before .before .before .before .before .before .before .before .pre in
+    let few = c .before .before .before .before .factored .ensures .1 .few in
+    (length-take-le _ _ (simp length-append (omega (arith, y-holds (c .before .before .before .before)))), omega (arith, few, p-n (c .before .before .before .before .before .before .before .before)), omega (arith, few, p-m (c .before .before .before .before .before .before .before .before), r .2), r .1)
 
 returns : tie.Need-returns
-returns c = ?
+returns c = 
+    let a = c .before .before .before .before .before .before .before .before .before .before .before .args in
+    let s = c .before .before .before .before .before .before .before .before .before .smaller-of in
+    let f = c .before .before .before .before .before in
+    (new-from (a .n) (a .m) (s .result) (a .e .now) _ _ _ (s .ensures) (f .factored .ensures .0) (take-append-le _ _ _ (y-holds f)) (c .null-space .ensures) (take-at _ _ _ (t-length f)), rw (s .ensures) at (f .factored .ensures .1))
 
 pub new-spec : {M : Type 1} → statement M
 new-spec = tie.close (tie.spec smaller-of-requires mul-entries mul-t mul-y array-borrow-prefix-left slice-aggregate-factored array-borrow-prefix-coefficients slice-aggregate-factored-2 array-borrow-prefix-range slice-aggregate-factored-3 factored-requires mul-columns array-share-prefix-range slice-aggregate-null-space null-space-requires returns)
