@@ -19,7 +19,14 @@ pub struct Constraints {
 }
 
 // Qᵀ, of the reflections that `range` makes; `made` starts as false.
-fn q_transpose_in(range: &[f64], n: usize, rank: usize, reflectors: &mut [f64], made: &mut [bool], q: &mut [f64])
+fn q_transpose_in(
+    range: &[f64],
+    n: usize,
+    rank: usize,
+    reflectors: &mut [f64],
+    made: &mut [bool],
+    q: &mut [f64],
+)
     requires { ⌜ (length (now range) ≡ n * rank) × (length (now reflectors) ≡ n * rank) × (now made ≡ tab rank (λ _. false)) × (length (now q) ≡ n * n) × (rank ≤ n) × (n ≤ 32) ⌝ }
     ensures { λ _. ⌜ now (q .exit) ≡ Definition.qTranspose n rank (now (range .entry)) ⌝ }
 {
@@ -38,7 +45,14 @@ fn q_transpose(range: &[f64], n: usize, rank: usize) -> [f64; 1024]
     let mut q = [0.0; 1024];
     let entries = n * rank;
     let square = n * n;
-    q_transpose_in(range, n, rank, &mut reflectors[..entries], &mut made[..rank], &mut q[..square]);
+    q_transpose_in(
+        range,
+        n,
+        rank,
+        &mut reflectors[..entries],
+        &mut made[..rank],
+        &mut q[..square],
+    );
     q
 }
 
@@ -121,7 +135,15 @@ impl Constraints {
         let entries = n * m;
         let t = p * m;
         let y = n * p;
-        let pivots = pivoting::factored(e, n, m, p, &mut left[..entries], &mut coefficients[..t], &mut range[..y]);
+        let pivots = pivoting::factored(
+            e,
+            n,
+            m,
+            p,
+            &mut left[..entries],
+            &mut coefficients[..t],
+            &mut range[..y],
+        );
         let rank = pivots.rank;
         let columns = n * rank;
         let null = null_space(&range[..columns], n, rank);
@@ -134,7 +156,15 @@ impl Constraints {
     }
 }
 
-fn feasible_one(coefficients: &[f64], p: usize, m: usize, b: &[f64], j: usize, i: usize, u: &[f64]) -> f64
+fn feasible_one(
+    coefficients: &[f64],
+    p: usize,
+    m: usize,
+    b: &[f64],
+    j: usize,
+    i: usize,
+    u: &[f64],
+) -> f64
     requires { ⌜ (p * m ≤ length (now coefficients)) × (m ≤ length (now b)) × (j < m) × (i < p) × (i ≤ length (now u)) ⌝ }
     ensures { λ r. ⌜ r ≡ Definition.feasibleOne p (now (coefficients .entry)) (now (b .entry)) j i (now (u .entry)) ⌝ }
 {
@@ -146,7 +176,15 @@ fn feasible_one(coefficients: &[f64], p: usize, m: usize, b: &[f64], j: usize, i
 }
 
 // u with Tᵀu = b on the pivot columns, by forward substitution.
-fn forward(coefficients: &[f64], p: usize, m: usize, b: &[f64], pivots: &[usize], rank: usize, u: &mut [f64])
+fn forward(
+    coefficients: &[f64],
+    p: usize,
+    m: usize,
+    b: &[f64],
+    pivots: &[usize],
+    rank: usize,
+    u: &mut [f64],
+)
     requires { ⌜ (p * m ≤ length (now coefficients)) × (m ≤ length (now b)) × (rank ≤ length (now pivots)) × (rank ≤ p) × Below rank (now pivots) m × (rank ≤ length (now u)) ⌝ }
     ensures { λ _. ⌜ now (u .exit) ≡ Definition.forward p (now (coefficients .entry)) (now (b .entry)) (now (pivots .entry)) rank (now (u .entry)) ⌝ }
 {
@@ -156,7 +194,15 @@ fn forward(coefficients: &[f64], p: usize, m: usize, b: &[f64], pivots: &[usize]
 }
 
 // The smallest x with Eᵀx = b on the pivot columns: x = Yu.
-pub fn smallest_feasible(range: &[f64], coefficients: &[f64], n: usize, m: usize, b: &[f64], pivots: &[usize], rank: usize) -> [f64; 48]
+pub fn smallest_feasible(
+    range: &[f64],
+    coefficients: &[f64],
+    n: usize,
+    m: usize,
+    b: &[f64],
+    pivots: &[usize],
+    rank: usize,
+) -> [f64; 48]
     requires { ⌜ (n * rank ≤ length (now range)) × (min n m * m ≤ length (now coefficients)) × (m ≤ length (now b)) × (rank ≤ length (now pivots)) × (rank ≤ min n m) × Below rank (now pivots) m × (n ≤ 32) ⌝ }
     ensures { λ r. ⌜ take n r ≡ Definition.smallestFeasible n m (now (range .entry)) (now (coefficients .entry)) (now (b .entry)) (now (pivots .entry)) rank ⌝ }
 {
@@ -166,7 +212,16 @@ pub fn smallest_feasible(range: &[f64], coefficients: &[f64], n: usize, m: usize
     dense::mul_vec(range, n, rank, &u[..rank])
 }
 
-fn multiplier_one(coefficients: &[f64], p: usize, m: usize, h: f64, pivots: &[usize], rank: usize, i: usize, lambda: &[f64]) -> f64
+fn multiplier_one(
+    coefficients: &[f64],
+    p: usize,
+    m: usize,
+    h: f64,
+    pivots: &[usize],
+    rank: usize,
+    i: usize,
+    lambda: &[f64],
+) -> f64
     requires { ⌜ (p * m ≤ length (now coefficients)) × (rank ≤ length (now pivots)) × (rank ≤ p) × Below rank (now pivots) m × (i < rank) × (m ≤ length (now lambda)) ⌝ }
     ensures { λ r. ⌜ r ≡ Definition.multiplierOne p (now (coefficients .entry)) h (now (pivots .entry)) rank i (now (lambda .entry)) ⌝ }
 {
@@ -178,7 +233,15 @@ fn multiplier_one(coefficients: &[f64], p: usize, m: usize, h: f64, pivots: &[us
     (h - known) / matrix::get(coefficients, p, m, i, pivots[i])
 }
 
-fn backward(coefficients: &[f64], p: usize, m: usize, h: &[f64], pivots: &[usize], rank: usize, lambda: &mut [f64])
+fn backward(
+    coefficients: &[f64],
+    p: usize,
+    m: usize,
+    h: &[f64],
+    pivots: &[usize],
+    rank: usize,
+    lambda: &mut [f64],
+)
     requires { ⌜ (p * m ≤ length (now coefficients)) × (rank ≤ length (now h)) × (rank ≤ length (now pivots)) × (rank ≤ p) × Below rank (now pivots) m × (m ≤ length (now lambda)) ⌝ }
     ensures { λ _. ⌜ now (lambda .exit) ≡ Definition.backward p (now (coefficients .entry)) (now (h .entry)) (now (pivots .entry)) rank (now (lambda .entry)) ⌝ }
 {
@@ -190,13 +253,29 @@ fn backward(coefficients: &[f64], p: usize, m: usize, h: &[f64], pivots: &[usize
 }
 
 // The λ that best solves Eλ = g: Tλ = Yᵀg on the pivot columns, by back substitution, with zero for dependent columns.
-pub fn multipliers(range: &[f64], coefficients: &[f64], n: usize, m: usize, g: &[f64], pivots: &[usize], rank: usize) -> [f64; 24]
+pub fn multipliers(
+    range: &[f64],
+    coefficients: &[f64],
+    n: usize,
+    m: usize,
+    g: &[f64],
+    pivots: &[usize],
+    rank: usize,
+) -> [f64; 24]
     requires { ⌜ (n * rank ≤ length (now range)) × (min n m * m ≤ length (now coefficients)) × (n ≤ length (now g)) × (rank ≤ length (now pivots)) × (rank ≤ min n m) × Below rank (now pivots) m × (m ≤ 24) ⌝ }
     ensures { λ r. ⌜ take m r ≡ Definition.multipliers n m (now (range .entry)) (now (coefficients .entry)) (now (g .entry)) (now (pivots .entry)) rank ⌝ }
 {
     let mut lambda = [0.0; 24];
     let p = pivoting::smaller_of(n, m);
     let h = dense::tr_mul_vec(range, n, rank, g);
-    backward(coefficients, p, m, &h[..rank], pivots, rank, &mut lambda[..m]);
+    backward(
+        coefficients,
+        p,
+        m,
+        &h[..rank],
+        pivots,
+        rank,
+        &mut lambda[..m],
+    );
     lambda
 }

@@ -124,8 +124,8 @@ pivoted-taken n zero p tol left coefficients basis h =
     let z : p ≡ 0 = omega arith in rw z (record { few = omega arith; columns = λ i l. omega arith })
 pivoted-taken n (suc m) p tol left coefficients basis h =
     let k : Kept p (suc m) (pivotsOf (ended (walk p (pivotStep n (suc m) p tol) (pivoting left coefficients basis noPivots)))) =
-        walk-keep (λ s. Kept p (suc m) (pivotsOf s)) p (pivotStep n (suc m) p tol) (pivoting left coefficients basis noPivots)
-        (record { few = omega arith; below = zeros-below 24 m }) (λ row s l q. step-kept n (suc m) p tol row l s q) in
+    walk-keep (λ s. Kept p (suc m) (pivotsOf s)) p (pivotStep n (suc m) p tol) (pivoting left coefficients basis noPivots)
+    (record { few = omega arith; below = zeros-below 24 m }) (λ row s l q. step-kept n (suc m) p tol row l s q) in
     record { few = k .few; columns = λ i l. k .below i }
 
 pub factored-taken : (n m p : ℕ) (e left coefficients basis : List Float) (pivots : Pivots) → p ≤ m → pivoting left coefficients basis pivots ≡ factored n m p e → Taken p m pivots

@@ -75,7 +75,14 @@ fn better(j: usize, norm: f64, best: Largest) -> Largest
     Largest::Found(j, norm)
 }
 
-fn better_one(left: &[f64], n: usize, m: usize, remaining: &[bool], j: usize, best: Largest) -> Largest
+fn better_one(
+    left: &[f64],
+    n: usize,
+    m: usize,
+    remaining: &[bool],
+    j: usize,
+    best: Largest,
+) -> Largest
     requires { ⌜ (n * m ≤ length (now left)) × (m ≤ length (now remaining)) × (j < m) ⌝ }
     ensures { λ r. ⌜ r ≡ Pivoting.betterOne n (now (left .entry)) (now (remaining .entry)) j best ⌝ }
 {
@@ -107,7 +114,16 @@ fn sub_column(a: &mut [f64], n: usize, m: usize, l: usize, y: &[f64], t: f64)
     }
 }
 
-fn remove_part(left: &mut [f64], coefficients: &mut [f64], n: usize, m: usize, p: usize, row: usize, y: &[f64], l: usize)
+fn remove_part(
+    left: &mut [f64],
+    coefficients: &mut [f64],
+    n: usize,
+    m: usize,
+    p: usize,
+    row: usize,
+    y: &[f64],
+    l: usize,
+)
     requires { ⌜ (n * m ≤ length (now left)) × (p * m ≤ length (now coefficients)) × (row < p) × (n ≤ length (now y)) × (l < m) ⌝ }
     ensures { λ _. ⌜ two (now (left .exit)) (now (coefficients .exit)) ≡ Pivoting.removePart n p row (now (y .entry)) l (two (now (left .entry)) (now (coefficients .entry))) ⌝ }
 {
@@ -118,7 +134,17 @@ fn remove_part(left: &mut [f64], coefficients: &mut [f64], n: usize, m: usize, p
 }
 
 // Twice, so that rounding in the first pass doesn't leave y in the column.
-fn remove_one(left: &mut [f64], coefficients: &mut [f64], n: usize, m: usize, p: usize, row: usize, y: &[f64], remaining: &[bool], l: usize)
+fn remove_one(
+    left: &mut [f64],
+    coefficients: &mut [f64],
+    n: usize,
+    m: usize,
+    p: usize,
+    row: usize,
+    y: &[f64],
+    remaining: &[bool],
+    l: usize,
+)
     requires { ⌜ (n * m ≤ length (now left)) × (p * m ≤ length (now coefficients)) × (row < p) × (n ≤ length (now y)) × (m ≤ length (now remaining)) × (l < m) ⌝ }
     ensures { λ _. ⌜ two (now (left .exit)) (now (coefficients .exit)) ≡ Pivoting.removeOne n p row (now (y .entry)) (now (remaining .entry)) l (two (now (left .entry)) (now (coefficients .entry))) ⌝ }
 {
@@ -128,7 +154,16 @@ fn remove_one(left: &mut [f64], coefficients: &mut [f64], n: usize, m: usize, p:
     }
 }
 
-fn remove_all(left: &mut [f64], coefficients: &mut [f64], n: usize, m: usize, p: usize, row: usize, y: &[f64], remaining: &[bool])
+fn remove_all(
+    left: &mut [f64],
+    coefficients: &mut [f64],
+    n: usize,
+    m: usize,
+    p: usize,
+    row: usize,
+    y: &[f64],
+    remaining: &[bool],
+)
     requires { ⌜ (n * m ≤ length (now left)) × (p * m ≤ length (now coefficients)) × (row < p) × (n ≤ length (now y)) × (m ≤ length (now remaining)) ⌝ }
     ensures { λ _. ⌜ two (now (left .exit)) (now (coefficients .exit)) ≡ Pivoting.removeAll n m p row (now (y .entry)) (now (remaining .entry)) (two (now (left .entry)) (now (coefficients .entry))) ⌝ }
 {
@@ -147,7 +182,17 @@ fn put_column(a: &mut [f64], n: usize, m: usize, j: usize, y: &[f64])
 }
 
 // The basis vector y: taken out of the remaining columns, and put into the basis.
-fn with_basis(left: &mut [f64], coefficients: &mut [f64], basis: &mut [f64], n: usize, m: usize, p: usize, row: usize, y: &[f64], remaining: &[bool])
+fn with_basis(
+    left: &mut [f64],
+    coefficients: &mut [f64],
+    basis: &mut [f64],
+    n: usize,
+    m: usize,
+    p: usize,
+    row: usize,
+    y: &[f64],
+    remaining: &[bool],
+)
     requires { ⌜ (n * m ≤ length (now left)) × (p * m ≤ length (now coefficients)) × (n * p ≤ length (now basis)) × (row < p) × (n ≤ length (now y)) × (m ≤ length (now remaining)) ⌝ }
     ensures { λ _. ⌜ two (now (left .exit)) (now (coefficients .exit)) ≡ Pivoting.removeAll n m p row (now (y .entry)) (now (remaining .entry)) (two (now (left .entry)) (now (coefficients .entry))) ⌝ }
     ensures { λ _. ⌜ now (basis .exit) ≡ putColumn n n row (at (now (y .entry))) (now (basis .entry)) ⌝ }
@@ -168,7 +213,18 @@ fn with_pivot(row: usize, j: usize, pivots: Pivots) -> Pivots
 }
 
 // Column j, of norm `norm`, is taken.
-fn taken(left: &mut [f64], coefficients: &mut [f64], basis: &mut [f64], n: usize, m: usize, p: usize, row: usize, j: usize, norm: f64, pivots: Pivots) -> Pivots
+fn taken(
+    left: &mut [f64],
+    coefficients: &mut [f64],
+    basis: &mut [f64],
+    n: usize,
+    m: usize,
+    p: usize,
+    row: usize,
+    j: usize,
+    norm: f64,
+    pivots: Pivots,
+) -> Pivots
     requires { ⌜ (n * m ≤ length (now left)) × (p * m ≤ length (now coefficients)) × (n * p ≤ length (now basis)) × (row < p) × (j < m) × (n ≤ 48) × (m ≤ 24) × (p ≤ 24) ⌝ }
     ensures { λ r. ⌜ pivoting (now (left .exit)) (now (coefficients .exit)) (now (basis .exit)) r ≡ Pivoting.taken n m p row j norm (pivoting (now (left .entry)) (now (coefficients .entry)) (now (basis .entry)) pivots) ⌝ }
 {
@@ -186,7 +242,17 @@ pub struct Turn {
     pub pivots: Pivots,
 }
 
-fn pivot_step(left: &mut [f64], coefficients: &mut [f64], basis: &mut [f64], n: usize, m: usize, p: usize, row: usize, tolerance: f64, pivots: Pivots) -> Turn
+fn pivot_step(
+    left: &mut [f64],
+    coefficients: &mut [f64],
+    basis: &mut [f64],
+    n: usize,
+    m: usize,
+    p: usize,
+    row: usize,
+    tolerance: f64,
+    pivots: Pivots,
+) -> Turn
     requires { ⌜ (n * m ≤ length (now left)) × (p * m ≤ length (now coefficients)) × (n * p ≤ length (now basis)) × (row < p) × (n ≤ 48) × (m ≤ 24) × (p ≤ 24) ⌝ }
     ensures { λ r. ⌜ out (r .more) (pivoting (now (left .exit)) (now (coefficients .exit)) (now (basis .exit)) (r .pivots)) ≡ Pivoting.pivotStep n m p tolerance row (pivoting (now (left .entry)) (now (coefficients .entry)) (now (basis .entry)) pivots) ⌝ }
 {
@@ -212,7 +278,16 @@ fn pivot_step(left: &mut [f64], coefficients: &mut [f64], basis: &mut [f64], n: 
 }
 
 // Gram-Schmidt with column pivoting and reorthogonalization; `left` starts as E.
-fn pivoted(left: &mut [f64], coefficients: &mut [f64], basis: &mut [f64], n: usize, m: usize, p: usize, tolerance: f64, start: Pivots) -> Pivots
+fn pivoted(
+    left: &mut [f64],
+    coefficients: &mut [f64],
+    basis: &mut [f64],
+    n: usize,
+    m: usize,
+    p: usize,
+    tolerance: f64,
+    start: Pivots,
+) -> Pivots
     requires { ⌜ (n * m ≤ length (now left)) × (p * m ≤ length (now coefficients)) × (n * p ≤ length (now basis)) × (n ≤ 48) × (m ≤ 24) × (p ≤ 24) ⌝ }
     ensures { λ r. ⌜ pivoting (now (left .exit)) (now (coefficients .exit)) (now (basis .exit)) r ≡ Pivoting.pivoted n m p tolerance (pivoting (now (left .entry)) (now (coefficients .entry)) (now (basis .entry)) start) ⌝ }
 {
@@ -220,8 +295,7 @@ fn pivoted(left: &mut [f64], coefficients: &mut [f64], basis: &mut [f64], n: usi
     for row in 0..p {
         let turn = pivot_step(left, coefficients, basis, n, m, p, row, tolerance, pivots);
         pivots = turn.pivots;
-        if turn.more {
-        } else {
+        if turn.more {} else {
             return pivots;
         }
     }
@@ -239,11 +313,28 @@ fn no_pivots() -> Pivots
 }
 
 // E = YT. T and Y start as zeros.
-pub fn factored(e: &[f64], n: usize, m: usize, p: usize, left: &mut [f64], coefficients: &mut [f64], basis: &mut [f64]) -> Pivots
+pub fn factored(
+    e: &[f64],
+    n: usize,
+    m: usize,
+    p: usize,
+    left: &mut [f64],
+    coefficients: &mut [f64],
+    basis: &mut [f64],
+) -> Pivots
     requires { ⌜ (n * m ≤ length (now e)) × (length (now left) ≡ n * m) × (now coefficients ≡ filled (p * m) f0) × (now basis ≡ filled (n * p) f0) × (p ≤ m) × (n ≤ 48) × (m ≤ 24) ⌝ }
     ensures { λ r. ⌜ pivoting (now (left .exit)) (now (coefficients .exit)) (now (basis .exit)) r ≡ Pivoting.factored n m p (now (e .entry)) ⌝ }
     ensures { λ r. ⌜ Taken p m r ⌝ }
 {
     vector::copy(e, n * m, left);
-    pivoted(left, coefficients, basis, n, m, p, tolerance(e, n, m), no_pivots())
+    pivoted(
+        left,
+        coefficients,
+        basis,
+        n,
+        m,
+        p,
+        tolerance(e, n, m),
+        no_pivots(),
+    )
 }

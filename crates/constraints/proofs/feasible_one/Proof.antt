@@ -1,4 +1,4 @@
-use Rattle.folds.specs.Kit.{_≡_, _+_, _-_, _*_, _<_, _≤_, arith, length, set, getD, fold, fold-call, needs, kit, fold-end}
+use Rattle.folds.specs.Kit.{_≡_, _-_, _≤_, arith, fold-call, kit, fold-end}
 use Rattle.arith.specs.Float.{at, fmul, sum}
 use Rattle.matrix.specs.Matrix.{cell}
 use Rattle.constraints.specs.Constraints.{feasibleOne}
@@ -11,41 +11,26 @@ Inv-loop coefficients p m b j i u known₀ k₀ known k = (k ≤ i) × (known �
 abbrev μ-loop : tie.MeasureT-loop
 μ-loop coefficients p m b j i u known₀ k₀ known k = i - k
 
-loop-holds : tie.Need-loop-holds Inv-loop μ-loop
-loop-holds c = search kit
-
-get-requires : tie.Need-get-requires Inv-loop μ-loop
-get-requires c κs = search kit
-
-mul-known : tie.Need-mul-known Inv-loop μ-loop
-mul-known c = search kit
-
-shared-slice-read-known : tie.Need-shared-slice-read-known Inv-loop μ-loop
-shared-slice-read-known c = search kit
-
-add-k : tie.Need-add-k Inv-loop μ-loop
-add-k c = search kit
-
-loop-less : tie.Need-loop-less Inv-loop μ-loop
-loop-less c = search kit
-
-loop-again : tie.Need-loop-again Inv-loop μ-loop
-loop-again c = (omega arith, fold-call _ _ _ (c .before .before .before .loop .inv .1) (rw (c .before .get .ensures)))
-
-mul-result : tie.Need-mul-result Inv-loop μ-loop
-mul-result c = search kit
-
-shared-slice-read-result : tie.Need-shared-slice-read-result Inv-loop μ-loop
-shared-slice-read-result c = search kit
-
-get-requires-2 : tie.Need-get-requires-2 Inv-loop μ-loop
-get-requires-2 c κs = search kit
-
 returns : tie.Need-returns Inv-loop μ-loop
 unfolding feasibleOne
-returns c = 
-    let at = c .before .before .before .loop .inv in
-    rw (c .get2 .ensures, fold-end _ (c .before .before .before .before .before .before .before .args .i) _ _ (at .0) (c .before .before .loop-test .left) (at .1))
+returns c =
+    let b3 = c .before .before .before in
+    let b7 = b3 .before .before .before .before in
+    let at = b3 .loop .inv in
+    rw (c .get2 .ensures, fold-end _ (b7 .args .i) _ _ (at .0) (c .before .before .loop-test .left) (at .1))
 
 pub feasible-one-spec : {M : Type 1} → statement M
-feasible-one-spec = tie.close (tie.spec Inv-loop μ-loop loop-holds get-requires mul-known shared-slice-read-known add-k loop-less loop-again mul-result shared-slice-read-result get-requires-2 returns)
+feasible-one-spec =
+    tie.close
+    (tie.spec Inv-loop μ-loop
+    (λ c. search kit)  -- loop-holds
+    (λ c κs. search kit)  -- get-requires
+    (λ c. search kit)  -- mul-known
+    (λ c. search kit)  -- shared-slice-read-known
+    (λ c. search kit)  -- add-k
+    (λ c. search kit)  -- loop-less
+    (λ c. (omega arith, fold-call _ _ _ (c .before .before .before .loop .inv .1) (rw (c .before .get .ensures))))  -- loop-again
+    (λ c. search kit)  -- mul-result
+    (λ c. search kit)  -- shared-slice-read-result
+    (λ c κs. search kit)  -- get-requires-2
+    returns)

@@ -1,4 +1,4 @@
-use Rattle.folds.specs.Kit.{_≡_, _+_, _-_, _*_, _<_, _≤_, arith, length, set, getD, fold, fold-call, needs, kit, sym}
+use Rattle.folds.specs.Kit.{_≡_, _*_, _≤_, arith, length, needs, sym}
 use Rattle.constraints.specs.Laws.{area}
 use lib.Seq.{length-take-le}
 use Rattle.constraints.specs.Constraints.{lessRange}
@@ -17,36 +17,27 @@ part-length c = search needs
 spanned-length : (c : tie.After-mul) → length (c .mul .result) ≡ 1024
 spanned-length c = search needs
 
-tr-mul-requires : tie.Need-tr-mul-requires
-tr-mul-requires c κs = let s = c .before .before in (rows-le s, s .pre .1, s .pre .0)
-
-mul-rows : tie.Need-mul-rows
-mul-rows c = omega (arith, rows-le (c .before .before .before))
-
-array-share-prefix-part : tie.Need-array-share-prefix-part
-array-share-prefix-part c = omega (arith, rows-le (c .before .before .before))
-
 slice-aggregate-mul : tie.Need-slice-aggregate-mul
 slice-aggregate-mul c = sym (length-take-le _ _ (omega (arith, rows-le (c .before .before .before .before), part-length (c .before))))
 
-mul-requires : tie.Need-mul-requires
-mul-requires c κs = let s = c .before .before .before .before in (entries-le s, s .pre .1, omega (arith, slice-aggregate-mul c))
-
-mul-entries : tie.Need-mul-entries
-mul-entries c = omega (arith, entries-le (c .before .before .before .before .before))
-
-array-share-prefix-spanned : tie.Need-array-share-prefix-spanned
-array-share-prefix-spanned c = omega (arith, entries-le (c .before .before .before .before .before))
-
 slice-aggregate-sub-matrix : tie.Need-slice-aggregate-sub-matrix
 slice-aggregate-sub-matrix c = sym (length-take-le _ _ (omega (arith, entries-le (c .before .before .before .before .before .before), spanned-length (c .before))))
-
-sub-matrix-requires : tie.Need-sub-matrix-requires
-sub-matrix-requires c κs = let s = c .before .before .before .before .before .before in (entries-le s, s .pre .0, omega (arith, slice-aggregate-sub-matrix c))
 
 returns : tie.Need-returns
 unfolding lessRange
 returns c = rw (c .sub-matrix .ensures, c .before .before .mul .ensures, c .before .before .before .before .tr-mul .ensures)
 
 pub less-range-spec : {M : Type 1} → statement M
-less-range-spec = tie.close (tie.spec tr-mul-requires mul-rows array-share-prefix-part slice-aggregate-mul mul-requires mul-entries array-share-prefix-spanned slice-aggregate-sub-matrix sub-matrix-requires returns)
+less-range-spec =
+    tie.close
+    (tie.spec
+    (λ c κs. let s = c .before .before in (rows-le s, s .pre .1, s .pre .0))  -- tr-mul-requires
+    (λ c. omega (arith, rows-le (c .before .before .before)))  -- mul-rows
+    (λ c. omega (arith, rows-le (c .before .before .before)))  -- array-share-prefix-part
+    slice-aggregate-mul
+    (λ c κs. let s = c .before .before .before .before in (entries-le s, s .pre .1, omega (arith, slice-aggregate-mul c)))  -- mul-requires
+    (λ c. omega (arith, entries-le (c .before .before .before .before .before)))  -- mul-entries
+    (λ c. omega (arith, entries-le (c .before .before .before .before .before)))  -- array-share-prefix-spanned
+    slice-aggregate-sub-matrix
+    (λ c κs. let s = c .before .before .before .before .before .before in (entries-le s, s .pre .0, omega (arith, slice-aggregate-sub-matrix c)))  -- sub-matrix-requires
+    returns)

@@ -1,4 +1,4 @@
-use Rattle.folds.specs.Kit.{_≡_, _+_, _-_, _*_, _<_, _≤_, arith, length, set, getD, fold, fold-call, needs, kit, span, spans, span-call}
+use Rattle.folds.specs.Kit.{_≡_, _+_, _-_, _<_, _≤_, arith, needs, kit, span, spans, span-call}
 use Rattle.folds.specs.Fold.{span-end}
 use Rattle.arith.specs.Float.{at, fadd, fmul, f0}
 use Rattle.matrix.specs.Matrix.{cell, index}
@@ -12,55 +12,37 @@ Inv-loop coefficients p m h pivots rank i lambda known₀ k₀ known k = (i + 1 
 abbrev μ-loop : tie.MeasureT-loop
 μ-loop coefficients p m h pivots rank i lambda known₀ k₀ known k = rank - k
 
-add-k : tie.Need-add-k Inv-loop μ-loop
-add-k c = search kit
-
 below : (c : tie.In-loop Inv-loop μ-loop) → index (c .before .before .before .before .before .args .pivots .now) (c .before .loop .k) < c .before .before .before .before .before .args .m
 below c = c .before .before .before .before .before .pre .3 _ (c .loop-test .taken)
 
-loop-holds : tie.Need-loop-holds Inv-loop μ-loop
-loop-holds c = search (spans, needs)
-
-mul-l : tie.Need-mul-l Inv-loop μ-loop
-mul-l c = search kit
-
-shared-slice-read-l : tie.Need-shared-slice-read-l Inv-loop μ-loop
-shared-slice-read-l c = search kit
-
-get-requires : tie.Need-get-requires Inv-loop μ-loop
-get-requires c κs = let r = c .before .before .before .before .before .before .pre in (r .0, omega arith, below (c .before))
-
-mul-known : tie.Need-mul-known Inv-loop μ-loop
-mul-known c = omega (arith, below (c .before .before))
-
-shared-slice-read-known : tie.Need-shared-slice-read-known Inv-loop μ-loop
-shared-slice-read-known c = omega (arith, below (c .before .before .before))
-
-add-k-2 : tie.Need-add-k-2 Inv-loop μ-loop
-add-k-2 c = search kit
-
-loop-less : tie.Need-loop-less Inv-loop μ-loop
-loop-less c = search kit
-
 loop-again : tie.Need-loop-again Inv-loop μ-loop
-loop-again c = 
+loop-again c =
     let at = c .before .before .before .before .loop .inv in
     (omega arith, omega arith, span-call _ _ _ _ (at .0) (at .2) (rw (c .before .get .ensures)))
 
-mul-get : tie.Need-mul-get Inv-loop μ-loop
-mul-get c = search kit
-
-shared-slice-read-get : tie.Need-shared-slice-read-get Inv-loop μ-loop
-shared-slice-read-get c = search kit
-
-get-requires-2 : tie.Need-get-requires-2 Inv-loop μ-loop
-get-requires-2 c κs = let r = c .before .before .before .before .before .before .pre in (r .0, omega arith, r .3 _ (r .4))
-
 returns : tie.Need-returns Inv-loop μ-loop
 unfolding multiplierOne
-returns c = 
-    let at = c .before .before .before .loop .inv in
-    rw (c .get2 .ensures, span-end _ _ (c .before .before .before .before .before .before .before .args .rank) _ _ (at .1) (c .before .before .loop-test .left) (at .2))
+returns c =
+    let b3 = c .before .before .before in
+    let b7 = b3 .before .before .before .before in
+    let at = b3 .loop .inv in
+    rw (c .get2 .ensures, span-end _ _ (b7 .args .rank) _ _ (at .1) (c .before .before .loop-test .left) (at .2))
 
 pub multiplier-one-spec : {M : Type 1} → statement M
-multiplier-one-spec = tie.close (tie.spec Inv-loop μ-loop add-k loop-holds mul-l shared-slice-read-l get-requires mul-known shared-slice-read-known add-k-2 loop-less loop-again mul-get shared-slice-read-get get-requires-2 returns)
+multiplier-one-spec =
+    tie.close
+    (tie.spec Inv-loop μ-loop
+    (λ c. search kit)  -- add-k
+    (λ c. search (spans, needs))  -- loop-holds
+    (λ c. search kit)  -- mul-l
+    (λ c. search kit)  -- shared-slice-read-l
+    (λ c κs. let r = c .before .before .before .before .before .before .pre in (r .0, omega arith, below (c .before)))  -- get-requires
+    (λ c. omega (arith, below (c .before .before)))  -- mul-known
+    (λ c. omega (arith, below (c .before .before .before)))  -- shared-slice-read-known
+    (λ c. search kit)  -- add-k-2
+    (λ c. search kit)  -- loop-less
+    loop-again
+    (λ c. search kit)  -- mul-get
+    (λ c. search kit)  -- shared-slice-read-get
+    (λ c κs. let r = c .before .before .before .before .before .before .pre in (r .0, omega arith, r .3 _ (r .4)))  -- get-requires-2
+    returns)

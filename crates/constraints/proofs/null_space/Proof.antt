@@ -1,4 +1,4 @@
-use Rattle.folds.specs.Kit.{_≡_, _+_, _-_, _*_, _<_, _≤_, arith, length, set, getD, fold, fold-call, needs, kit, sym, refl, pick-true, pick-false}
+use Rattle.folds.specs.Kit.{_≡_, _-_, _*_, _≤_, arith, length, fold, needs, kit, sym, refl, pick-true, pick-false}
 use borrow.Author.Tests.{eq-eqb, ne-eqb}
 use Rattle.constraints.specs.Laws.{area}
 use lib.Seq.{length-take-le}
@@ -21,59 +21,47 @@ rest-length c = search needs
 once-length : (c : tie.After-less-range) → length (c .less-range .result) ≡ 1024
 once-length c = search needs
 
-identity-requires : tie.Need-identity-requires
-identity-requires c κs = search kit
-
 returns : tie.Need-returns
 unfolding nullSpace
-returns c = 
+returns c =
     let whole : c .before .before .before .args .n - c .before .before .before .args .rank ≡ c .before .before .before .args .n = omega arith in
     rw (whole, c .identity .ensures) (pick-true _ _ (eq-eqb _ _ (c .before .if1 .taken)) refl)
-
-q-transpose-requires : tie.Need-q-transpose-requires
-q-transpose-requires c κs = search kit
-
-sub-d : tie.Need-sub-d
-sub-d c = search kit
-
-mul-square : tie.Need-mul-square
-mul-square c = omega (arith, square-le (c .before .before .before))
-
-mul-entries : tie.Need-mul-entries
-mul-entries c = omega (arith, entries-le (c .before .before .before))
-
-array-share-prefix-q : tie.Need-array-share-prefix-q
-array-share-prefix-q c = omega (arith, square-le (c .before .before .before))
 
 slice-aggregate-rows-transposed : tie.Need-slice-aggregate-rows-transposed
 slice-aggregate-rows-transposed c = sym (length-take-le _ _ (omega (arith, square-le (c .before .before .before .before), q-length (c .before))))
 
-rows-transposed-requires : tie.Need-rows-transposed-requires
-rows-transposed-requires c κs = let r = c .before .before .before .before .pre in (omega (arith, slice-aggregate-rows-transposed c), omega (arith, r .1), r .3)
-
-array-share-prefix-rest : tie.Need-array-share-prefix-rest
-array-share-prefix-rest c = omega (arith, entries-le (c .before .before .before .before .before))
-
 slice-aggregate-less-range : tie.Need-slice-aggregate-less-range
 slice-aggregate-less-range c = sym (length-take-le _ _ (omega (arith, entries-le (c .before .before .before .before .before .before), rest-length (c .before))))
-
-less-range-requires : tie.Need-less-range-requires
-less-range-requires c κs = let r = c .before .before .before .before .before .before .pre in (omega (arith, slice-aggregate-less-range c), omega (arith, r .0), omega (arith, r .1), r .3)
-
-array-share-prefix-once : tie.Need-array-share-prefix-once
-array-share-prefix-once c = omega (arith, entries-le (c .before .before .before .before .before .before .before))
 
 slice-aggregate-less-range-2 : tie.Need-slice-aggregate-less-range-2
 slice-aggregate-less-range-2 c = sym (length-take-le _ _ (omega (arith, entries-le (c .before .before .before .before .before .before .before .before), once-length (c .before))))
 
-less-range-requires-2 : tie.Need-less-range-requires-2
-less-range-requires-2 c κs = let r = c .before .before .before .before .before .before .before .before .pre in (omega (arith, slice-aggregate-less-range-2 c), omega (arith, r .0), omega (arith, r .1), r .3)
-
 returns-2 : tie.Need-returns-2
 unfolding nullSpace fold
-returns-2 c = 
-    rw (c .less-range2 .ensures, c .before .before .less-range .ensures, c .before .before .before .before .rows-transposed .ensures, c .before .before .before .before .before .before .q-transpose .ensures)
-    (pick-false _ _ (ne-eqb _ _ (c .before .before .before .before .before .before .before .if1 .left)) refl)
+returns-2 c =
+    let b4 = c .before .before .before .before in
+    let b6 = b4 .before .before in
+    let b7 = b6 .before in
+    rw (c .less-range2 .ensures, c .before .before .less-range .ensures, b4 .rows-transposed .ensures, b6 .q-transpose .ensures)
+    (pick-false _ _ (ne-eqb _ _ (b7 .if1 .left)) refl)
 
 pub null-space-spec : {M : Type 1} → statement M
-null-space-spec = tie.close (tie.spec identity-requires returns q-transpose-requires sub-d mul-square mul-entries array-share-prefix-q slice-aggregate-rows-transposed rows-transposed-requires array-share-prefix-rest slice-aggregate-less-range less-range-requires array-share-prefix-once slice-aggregate-less-range-2 less-range-requires-2 returns-2)
+null-space-spec =
+    tie.close
+    (tie.spec
+    (λ c κs. search kit)  -- identity-requires
+    returns
+    (λ c κs. search kit)  -- q-transpose-requires
+    (λ c. search kit)  -- sub-d
+    (λ c. omega (arith, square-le (c .before .before .before)))  -- mul-square
+    (λ c. omega (arith, entries-le (c .before .before .before)))  -- mul-entries
+    (λ c. omega (arith, square-le (c .before .before .before)))  -- array-share-prefix-q
+    slice-aggregate-rows-transposed
+    (λ c κs. let r = c .before .before .before .before .pre in (omega (arith, slice-aggregate-rows-transposed c), omega (arith, r .1), r .3))  -- rows-transposed-requires
+    (λ c. omega (arith, entries-le (c .before .before .before .before .before)))  -- array-share-prefix-rest
+    slice-aggregate-less-range
+    (λ c κs. let r = c .before .before .before .before .before .before .pre in (omega (arith, slice-aggregate-less-range c), omega (arith, r .0), omega (arith, r .1), r .3))  -- less-range-requires
+    (λ c. omega (arith, entries-le (c .before .before .before .before .before .before .before)))  -- array-share-prefix-once
+    slice-aggregate-less-range-2
+    (λ c κs. let r = c .before .before .before .before .before .before .before .before .pre in (omega (arith, slice-aggregate-less-range-2 c), omega (arith, r .0), omega (arith, r .1), r .3))  -- less-range-requires-2
+    returns-2)

@@ -1,20 +1,11 @@
-use Rattle.folds.specs.Kit.{_≡_, _+_, _-_, _*_, _<_, _≤_, arith, length, set, getD, fold, fold-call, needs, kit, pick}
+use Rattle.folds.specs.Kit.{kit, pick}
 use Rattle.pivoting.specs.Pivoting.{better}
 use Rattle.pivoting.proofs.better.Statement.{statement}
 use Rattle.pivoting.proofs.better.Tie as tie
 
-enum-known-best : tie.Need-enum-known-best
-enum-known-best c = search kit
-
-enum-told : tie.Need-enum-told
-enum-told c = search kit
-
 returns : tie.Need-returns
 unfolding better
 returns c = rw (c .enum-told .given .1)
-
-total-less-requires : tie.Need-total-less-requires
-total-less-requires c κs = search kit
 
 returns-2 : tie.Need-returns-2
 unfolding better pick
@@ -25,4 +16,12 @@ unfolding better pick
 returns-3 c = rw (c .before .before .before .best .given .1, ← c .before .total-less .ensures, c .if1 .left)
 
 pub better-spec : {M : Type 1} → statement M
-better-spec = tie.close (tie.spec enum-known-best enum-told returns total-less-requires returns-2 returns-3)
+better-spec =
+    tie.close
+    (tie.spec
+    (λ c. search kit)  -- enum-known-best
+    (λ c. search kit)  -- enum-told
+    returns
+    (λ c κs. search kit)  -- total-less-requires
+    returns-2
+    returns-3)

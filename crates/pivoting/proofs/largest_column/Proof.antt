@@ -1,4 +1,4 @@
-use Rattle.folds.specs.Kit.{_≡_, _+_, _-_, _*_, _<_, _≤_, arith, length, set, getD, fold, fold-call, needs, kit}
+use Rattle.folds.specs.Kit.{_≡_, _-_, _≤_, fold, kit}
 use Rattle.pivoting.specs.Pivoting.{betterOne, largestColumn}
 use Rattle.pivoting.specs.declared.Largest.the-variants.{Nothing}
 use Rattle.pivoting.proofs.largest_column.Statement.{statement}
@@ -10,24 +10,17 @@ Inv-loop left n m remaining best₀ j₀ best j = (j ≤ m) × (best ≡ fold j 
 abbrev μ-loop : tie.MeasureT-loop
 μ-loop left n m remaining best₀ j₀ best j = m - j
 
-loop-holds : tie.Need-loop-holds Inv-loop μ-loop
-loop-holds c = search kit
-
-better-one-requires : tie.Need-better-one-requires Inv-loop μ-loop
-better-one-requires c κs = search kit
-
-add-j : tie.Need-add-j Inv-loop μ-loop
-add-j c = search kit
-
-loop-less : tie.Need-loop-less Inv-loop μ-loop
-loop-less c = search kit
-
-loop-again : tie.Need-loop-again Inv-loop μ-loop
-loop-again c = search kit
-
 returns : tie.Need-returns Inv-loop μ-loop
 unfolding largestColumn
 returns c = search kit
 
 pub largest-column-spec : {M : Type 1} → statement M
-largest-column-spec = tie.close (tie.spec Inv-loop μ-loop loop-holds better-one-requires add-j loop-less loop-again returns)
+largest-column-spec =
+    tie.close
+    (tie.spec Inv-loop μ-loop
+    (λ c. search kit)  -- loop-holds
+    (λ c κs. search kit)  -- better-one-requires
+    (λ c. search kit)  -- add-j
+    (λ c. search kit)  -- loop-less
+    (λ c. search kit)  -- loop-again
+    returns)

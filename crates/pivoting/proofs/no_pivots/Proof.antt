@@ -1,4 +1,4 @@
-use Rattle.folds.specs.Kit.{_≡_, _+_, _-_, _*_, _<_, _≤_, arith, length, set, getD, fold, fold-call, needs, kit, refl}
+use Rattle.folds.specs.Kit.{refl}
 use Rattle.pivoting.specs.Pivoting.{noPivots}
 use Rattle.pivoting.proofs.no_pivots.Statement.{statement}
 use Rattle.pivoting.proofs.no_pivots.Tie as tie
@@ -8,4 +8,7 @@ unfolding noPivots
 returns c = refl
 
 pub no-pivots-spec : {M : Type 1} → statement M
-no-pivots-spec = tie.close (tie.spec returns)
+no-pivots-spec =
+    tie.close
+    (tie.spec
+    returns)

@@ -1,4 +1,4 @@
-use Rattle.folds.specs.Kit.{_≡_, _+_, _-_, _*_, _<_, _≤_, arith, length, set, getD, fold, fold-call, needs, kit, ap, walk, out, walk-call, walk-stop, walks, true}
+use Rattle.folds.specs.Kit.{_≡_, _-_, _≤_, arith, length, needs, kit, ap, walk, out, walk-call, walk-stop, walks, true}
 use Rattle.folds.specs.Fold.{ended, walk-end}
 use Rattle.pivoting.specs.Pivoting.{pivoting, pivotStep, pivoted}
 use Rattle.pivoting.proofs.pivoted.Statement.{statement}
@@ -10,48 +10,32 @@ Inv-loop left₀ coefficients₀ basis₀ n m p tolerance pivots₀ row₀ left 
 abbrev μ-loop : tie.MeasureT-loop
 μ-loop left₀ coefficients₀ basis₀ n m p tolerance pivots₀ row₀ left coefficients basis pivots row = p - row
 
-loop-holds : tie.Need-loop-holds Inv-loop μ-loop
-loop-holds c = search (walks, needs)
-
-pivot-step-requires : tie.Need-pivot-step-requires Inv-loop μ-loop
-pivot-step-requires c κs = search kit
-
-same-length : tie.Need-same-length Inv-loop μ-loop
-same-length c = search kit
-
-same-length-2 : tie.Need-same-length-2 Inv-loop μ-loop
-same-length-2 c = search kit
-
-same-length-3 : tie.Need-same-length-3 Inv-loop μ-loop
-same-length-3 c = search kit
-
 returns : tie.Need-returns Inv-loop μ-loop
 unfolding pivoted ended
-returns c = 
-    ap ended (walk-stop _ _ _ _ (c .before .before .before .before .before .before .before .before .before .before .before .before .loop-test .taken) (c .before .before .before .before .before .before .before .before .before .before .before .before .before .loop .inv .4) (rw (c .if1 .left) at (c .before .before .before .before .before .before .before .before .pivot-step .ensures)))
-
-add-row : tie.Need-add-row Inv-loop μ-loop
-add-row c = search kit
-
-loop-less : tie.Need-loop-less Inv-loop μ-loop
-loop-less c = search kit
-
-loop-again : tie.Need-loop-again Inv-loop μ-loop
-loop-again c = 
-    (omega arith, omega arith, omega arith, omega arith, walk-call _ _ _ (c .before .before .before .before .before .before .before .before .before .before .before .before .before .loop .inv .4) (rw (c .if1 .taken) at (c .before .before .before .before .before .before .before .before .pivot-step .ensures)))
-
-same-length-4 : tie.Need-same-length-4 Inv-loop μ-loop
-same-length-4 c = search kit
-
-same-length-5 : tie.Need-same-length-5 Inv-loop μ-loop
-same-length-5 c = search kit
-
-same-length-6 : tie.Need-same-length-6 Inv-loop μ-loop
-same-length-6 c = search kit
+returns c =
+    let b8 = c .before .before .before .before .before .before .before .before in
+    let b12 = b8 .before .before .before .before in
+    let b13 = b12 .before in
+    ap ended (walk-stop _ _ _ _ (b12 .loop-test .taken) (b13 .loop .inv .4) (rw (c .if1 .left) at (b8 .pivot-step .ensures)))
 
 returns-2 : tie.Need-returns-2 Inv-loop μ-loop
 unfolding pivoted ended
 returns-2 c = ap ended (walk-end _ _ _ _ (c .before .loop .inv .0) (c .loop-test .left) (c .before .loop .inv .4))
 
 pub pivoted-spec : {M : Type 1} → statement M
-pivoted-spec = tie.close (tie.spec Inv-loop μ-loop loop-holds pivot-step-requires same-length same-length-2 same-length-3 returns add-row loop-less loop-again same-length-4 same-length-5 same-length-6 returns-2)
+pivoted-spec =
+    tie.close
+    (tie.spec Inv-loop μ-loop
+    (λ c. search (walks, needs))  -- loop-holds
+    (λ c κs. search kit)  -- pivot-step-requires
+    (λ c. search kit)  -- same-length
+    (λ c. search kit)  -- same-length-2
+    (λ c. search kit)  -- same-length-3
+    returns
+    (λ c. search kit)  -- add-row
+    (λ c. search kit)  -- loop-less
+    (λ c. let b8 = c .before .before .before .before .before .before .before .before in let b13 = b8 .before .before .before .before .before in (omega arith, omega arith, omega arith, omega arith, walk-call _ _ _ (b13 .loop .inv .4) (rw (c .if1 .taken) at (b8 .pivot-step .ensures))))  -- loop-again
+    (λ c. search kit)  -- same-length-4
+    (λ c. search kit)  -- same-length-5
+    (λ c. search kit)  -- same-length-6
+    returns-2)
