@@ -5,7 +5,7 @@ use Prim.Native.Nat.{ℕ, zero, suc, _+_, _-_, _*_, _<_, _≤_}
 use mathlib.Core.Logic.{⊎-elim}
 use native.Mathlib.Nat.{not-suc-le-zero, eq-or-lt-of-le, le-of-suc-le-suc, mul-zero, mul-suc, mul-comm}
 use native.Mathlib.Omega.{arith}
-use lib.ListN.{length, set, take, drop, getD, length-append, length-drop, take-append-drop, List·getD-append}
+use lib.ListN.{length, set, take, drop, getD, replicate, length-append, length-drop, length-replicate, getD-replicate, take-append-drop, List·getD-append}
 use lib.Seq.{drop-cons, set-at, take-at, drop-at, drop-drop, drop-length, length-take-le, getD-at, getD-append-add, getD-drop, getD-take, ext-getD}
 use Rattle.folds.specs.Fold.{fold, tab, tabM, over}
 
@@ -76,6 +76,16 @@ module _ {A : Type 0} where
   pub tab-getD : (d : A) (l : List A) → l ≡ tab (length l) (λ i. getD l i d)
   tab-getD d l = ext-getD d l (tab (length l) (λ i. getD l i d)) (sym (length-tab (length l) (λ i. getD l i d))) (λ i h. sym (getD-tab d (length l) i (λ i. getD l i d) h))
 
+  pub tab-all : (d : A) (n : ℕ) (l : List A) → length l ≡ n → tab n (λ i. getD l i d) ≡ l
+  tab-all d n l e = rw (← e) (sym (tab-getD d l))
+
+  -- the start of a list of one value
+  pub take-replicate : (k n : ℕ) (v : A) → k ≤ n → take k (replicate n v) ≡ tab k (λ _. v)
+  take-replicate k n v h =
+      let q : length (take k (replicate n v)) ≡ k = length-take-le k (replicate n v) (rw (length-replicate n v) h) in
+      ext-getD v (take k (replicate n v)) (tab k (λ _. v)) (q ∙ sym (length-tab k (λ _. v)))
+      (λ i g. let w : i < k = rw q at g in let u : i < n = omega arith in rw (getD-take k (replicate n v) i v w, getD-replicate n i v v u, getD-tab v k i (λ _. v) w))
+
   -- each element is replaced by h of its index and itself
   edit : (d : A) (n : ℕ) (h : ℕ → A → A) (o : List A) → n ≤ length o → fold n (λ i l. set l i (h i (getD l i d))) o ≡ tab n (λ i. h i (getD o i d)) ++ drop n o
   unfolding fold tab
@@ -136,5 +146,14 @@ module _ {A : Type 0} where
       let m : length (take n (drop b l)) ≡ n = length-take-le n (drop b l) (simp length-drop (omega arith)) in
       ext-getD d (take n (drop b l)) (tab n g) (m ∙ sym (length-tab n g))
       (λ i k. let j : i < n = omega arith in
-          let z : b + i ≡ i + b = omega arith in
-          rw (getD-take n (drop b l) i d j, getD-drop b l i d, z, getD-tab d n i g j))
+      let z : b + i ≡ i + b = omega arith in
+      rw (getD-take n (drop b l) i d j, getD-drop b l i d, z, getD-tab d n i g j))
+
+  -- the part that was written
+  pub taken-tab : {r : List A} (n : ℕ) (g : ℕ → A) (o : List A) → r ≡ over (tab n g) o → take n r ≡ tab n g
+  unfolding over
+  taken-tab n g o e = rw (e, take-at (tab n g) (drop (length (tab n g)) o) n (length-tab n g))
+
+  pub taken-tabM : {r : List A} (n m : ℕ) (g : ℕ → ℕ → A) (o : List A) → r ≡ over (tabM n m g) o → take (n * m) r ≡ tabM n m g
+  unfolding over
+  taken-tabM n m g o e = rw (e, take-at (tabM n m g) (drop (length (tabM n m g)) o) (n * m) (length-tabM n m g))

@@ -1,0 +1,27 @@
+use Rattle.folds.specs.Kit.{_≡_, _+_, _-_, _≤_, arith, length, fold, fold-call, kit, over-kit}
+use Rattle.matrix.specs.Matrix.{cell, putColumn}
+use Rattle.constraints.specs.Constraints.{rowsTransposed}
+use Rattle.constraints.proofs.rows_transposed_in.Statement.{statement}
+use Rattle.constraints.proofs.rows_transposed_in.Tie as tie
+
+abbrev Inv-loop : tie.InvT-loop
+Inv-loop q n rank d z₀ j₀ z j = (j ≤ d) × (length z ≡ length z₀) × (z ≡ fold j (λ t l. putColumn n n t (λ i. cell q n (rank + t) i) l) z₀)
+
+abbrev μ-loop : tie.MeasureT-loop
+μ-loop q n rank d z₀ j₀ z j = d - j
+
+returns : tie.Need-returns Inv-loop μ-loop
+unfolding rowsTransposed putColumn
+returns c = search over-kit
+
+pub rows-transposed-in-spec : {M : Type 1} → statement M
+rows-transposed-in-spec =
+    tie.close
+    (tie.spec Inv-loop μ-loop
+    (λ c. search kit)  -- loop-holds
+    (λ c κs. search kit)  -- rows-transposed-column-requires
+    (λ c. search kit)  -- add-j
+    (λ c. search kit)  -- loop-less
+    (λ c. (omega arith, omega arith, fold-call _ _ _ (c .before .before .before .before .before .loop .inv .2) (c .before .before .rows-transposed-column .ensures)))  -- loop-again
+    (λ c. search kit)  -- same-length
+    returns)

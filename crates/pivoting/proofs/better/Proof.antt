@@ -1,0 +1,27 @@
+use Rattle.folds.specs.Kit.{kit, pick}
+use Rattle.pivoting.specs.Pivoting.{better}
+use Rattle.pivoting.proofs.better.Statement.{statement}
+use Rattle.pivoting.proofs.better.Tie as tie
+
+returns : tie.Need-returns
+unfolding better
+returns c = rw (c .enum-told .given .1)
+
+returns-2 : tie.Need-returns-2
+unfolding better pick
+returns-2 c = rw (c .before .before .before .best .given .1, ← c .before .total-less .ensures, c .if1 .taken)
+
+returns-3 : tie.Need-returns-3
+unfolding better pick
+returns-3 c = rw (c .before .before .before .best .given .1, ← c .before .total-less .ensures, c .if1 .left)
+
+pub better-spec : {M : Type 1} → statement M
+better-spec =
+    tie.close
+    (tie.spec
+    (λ c. search kit)  -- enum-known-best
+    (λ c. search kit)  -- enum-told
+    returns
+    (λ c κs. search kit)  -- total-less-requires
+    returns-2
+    returns-3)

@@ -1,0 +1,3 @@
+pub mod Pivoting
+pub mod Laws
+pub mod Known

@@ -1,0 +1,340 @@
+// qp.rs: the first half of `Constraints::new`, of E with n rows and m columns, up to 32 and 24; p is min(n, m). Of the basis Y, n by p, the
+// first `rank` columns count, and of T, p by m, the first `rank` rows.
+ghost use mathlib.Core.Path.{_≡_};
+ghost use Prim.Native.Nat.{_≤_, _<_, _*_, min, max};
+ghost use lib.ListN.{length};
+ghost use lib.Ieee.{Float};
+ghost use Rattle.folds.specs.Fold.{out};
+ghost use Rattle.folds.specs.Part.{two};
+ghost use Rattle.arith.specs.Float.{f0, at};
+ghost use Rattle.vector.specs.Vector.{filled};
+ghost use Rattle.matrix.specs.Matrix.{putColumn};
+ghost use Rattle.pivoting.specs.Pivoting as Pivoting;
+ghost use Rattle.pivoting.specs.Pivoting.{pivoting, Taken};
+
+// The remaining column of the largest norm, as `max_by` has it.
+pub enum Largest {
+    Found(usize, f64),
+    Nothing,
+}
+
+// The column of E each basis vector was built from, in order, and which columns remain.
+pub struct Pivots {
+    pub column: [usize; 24],
+    pub remaining: [bool; 24],
+    pub rank: usize,
+}
+
+fn larger_of(n: usize, m: usize) -> usize
+    ensures { λ r. ⌜ r ≡ max n m ⌝ }
+{
+    if n < m { m } else { n }
+}
+
+pub fn smaller_of(n: usize, m: usize) -> usize
+    ensures { λ r. ⌜ r ≡ min n m ⌝ }
+{
+    if n < m { n } else { m }
+}
+
+fn column_norm(a: &[f64], n: usize, m: usize, j: usize) -> f64
+    requires { ⌜ (n * m ≤ length (now a)) × (j < m) ⌝ }
+    ensures { λ r. ⌜ r ≡ Pivoting.columnNorm n (now (a .entry)) j ⌝ }
+{
+    vector::norm(matrix::column(a, n, m, j), n)
+}
+
+fn largest_norm(e: &[f64], n: usize, m: usize) -> f64
+    requires { ⌜ n * m ≤ length (now e) ⌝ }
+    ensures { λ r. ⌜ r ≡ Pivoting.largestNorm n m (now (e .entry)) ⌝ }
+{
+    let mut s = 0.0;
+    for j in 0..m {
+        s = arith::max(s, column_norm(e, n, m, j));
+    }
+    s
+}
+
+// What is left of a column at or below it is rounding.
+fn tolerance(e: &[f64], n: usize, m: usize) -> f64
+    requires { ⌜ n * m ≤ length (now e) ⌝ }
+    ensures { λ r. ⌜ r ≡ Pivoting.tolerance n m (now (e .entry)) ⌝ }
+{
+    arith::from_usize(larger_of(n, m)) * arith::EPSILON * largest_norm(e, n, m)
+}
+
+fn better(j: usize, norm: f64, best: Largest) -> Largest
+    ensures { λ r. ⌜ r ≡ Pivoting.better j norm best ⌝ }
+{
+    let Largest::Found(_, value) = best else {
+        return Largest::Found(j, norm);
+    };
+    if arith::total_less(norm, value) {
+        return best;
+    }
+    Largest::Found(j, norm)
+}
+
+fn better_one(
+    left: &[f64],
+    n: usize,
+    m: usize,
+    remaining: &[bool],
+    j: usize,
+    best: Largest,
+) -> Largest
+    requires { ⌜ (n * m ≤ length (now left)) × (m ≤ length (now remaining)) × (j < m) ⌝ }
+    ensures { λ r. ⌜ r ≡ Pivoting.betterOne n (now (left .entry)) (now (remaining .entry)) j best ⌝ }
+{
+    if remaining[j] {
+        return better(j, column_norm(left, n, m, j), best);
+    }
+    best
+}
+
+fn largest_column(left: &[f64], n: usize, m: usize, remaining: &[bool]) -> Largest
+    requires { ⌜ (n * m ≤ length (now left)) × (m ≤ length (now remaining)) ⌝ }
+    ensures { λ r. ⌜ r ≡ Pivoting.largestColumn n m (now (left .entry)) (now (remaining .entry)) ⌝ }
+{
+    let mut best = Largest::Nothing;
+    for j in 0..m {
+        best = better_one(left, n, m, remaining, j, best);
+    }
+    best
+}
+
+// Column l of a (n by m) less y times t.
+fn sub_column(a: &mut [f64], n: usize, m: usize, l: usize, y: &[f64], t: f64)
+    requires { ⌜ (n * m ≤ length (now a)) × (l < m) × (n ≤ length (now y)) ⌝ }
+    ensures { λ _. ⌜ now (a .exit) ≡ Pivoting.subColumn n l (now (y .entry)) t (now (a .entry)) ⌝ }
+{
+    for i in 0..n {
+        let v = matrix::get(&a[..], n, m, i, l) - y[i] * t;
+        matrix::put(a, n, m, i, l, v);
+    }
+}
+
+fn remove_part(
+    left: &mut [f64],
+    coefficients: &mut [f64],
+    n: usize,
+    m: usize,
+    p: usize,
+    row: usize,
+    y: &[f64],
+    l: usize,
+)
+    requires { ⌜ (n * m ≤ length (now left)) × (p * m ≤ length (now coefficients)) × (row < p) × (n ≤ length (now y)) × (l < m) ⌝ }
+    ensures { λ _. ⌜ two (now (left .exit)) (now (coefficients .exit)) ≡ Pivoting.removePart n p row (now (y .entry)) l (two (now (left .entry)) (now (coefficients .entry))) ⌝ }
+{
+    let t = vector::dot(y, matrix::column(&left[..], n, m, l), n);
+    let c = matrix::get(&coefficients[..], p, m, row, l) + t;
+    matrix::put(coefficients, p, m, row, l, c);
+    sub_column(left, n, m, l, y, t);
+}
+
+// Twice, so that rounding in the first pass doesn't leave y in the column.
+fn remove_one(
+    left: &mut [f64],
+    coefficients: &mut [f64],
+    n: usize,
+    m: usize,
+    p: usize,
+    row: usize,
+    y: &[f64],
+    remaining: &[bool],
+    l: usize,
+)
+    requires { ⌜ (n * m ≤ length (now left)) × (p * m ≤ length (now coefficients)) × (row < p) × (n ≤ length (now y)) × (m ≤ length (now remaining)) × (l < m) ⌝ }
+    ensures { λ _. ⌜ two (now (left .exit)) (now (coefficients .exit)) ≡ Pivoting.removeOne n p row (now (y .entry)) (now (remaining .entry)) l (two (now (left .entry)) (now (coefficients .entry))) ⌝ }
+{
+    if remaining[l] {
+        remove_part(left, coefficients, n, m, p, row, y, l);
+        remove_part(left, coefficients, n, m, p, row, y, l);
+    }
+}
+
+fn remove_all(
+    left: &mut [f64],
+    coefficients: &mut [f64],
+    n: usize,
+    m: usize,
+    p: usize,
+    row: usize,
+    y: &[f64],
+    remaining: &[bool],
+)
+    requires { ⌜ (n * m ≤ length (now left)) × (p * m ≤ length (now coefficients)) × (row < p) × (n ≤ length (now y)) × (m ≤ length (now remaining)) ⌝ }
+    ensures { λ _. ⌜ two (now (left .exit)) (now (coefficients .exit)) ≡ Pivoting.removeAll n m p row (now (y .entry)) (now (remaining .entry)) (two (now (left .entry)) (now (coefficients .entry))) ⌝ }
+{
+    for l in 0..m {
+        remove_one(left, coefficients, n, m, p, row, y, remaining, l);
+    }
+}
+
+fn put_column(a: &mut [f64], n: usize, m: usize, j: usize, y: &[f64])
+    requires { ⌜ (n * m ≤ length (now a)) × (j < m) × (n ≤ length (now y)) ⌝ }
+    ensures { λ _. ⌜ now (a .exit) ≡ putColumn n n j (at (now (y .entry))) (now (a .entry)) ⌝ }
+{
+    for i in 0..n {
+        matrix::put(a, n, m, i, j, y[i]);
+    }
+}
+
+// The basis vector y: taken out of the remaining columns, and put into the basis.
+fn with_basis(
+    left: &mut [f64],
+    coefficients: &mut [f64],
+    basis: &mut [f64],
+    n: usize,
+    m: usize,
+    p: usize,
+    row: usize,
+    y: &[f64],
+    remaining: &[bool],
+)
+    requires { ⌜ (n * m ≤ length (now left)) × (p * m ≤ length (now coefficients)) × (n * p ≤ length (now basis)) × (row < p) × (n ≤ length (now y)) × (m ≤ length (now remaining)) ⌝ }
+    ensures { λ _. ⌜ two (now (left .exit)) (now (coefficients .exit)) ≡ Pivoting.removeAll n m p row (now (y .entry)) (now (remaining .entry)) (two (now (left .entry)) (now (coefficients .entry))) ⌝ }
+    ensures { λ _. ⌜ now (basis .exit) ≡ putColumn n n row (at (now (y .entry))) (now (basis .entry)) ⌝ }
+{
+    remove_all(left, coefficients, n, m, p, row, y, remaining);
+    put_column(basis, n, p, row, y);
+}
+
+fn with_pivot(row: usize, j: usize, pivots: Pivots) -> Pivots
+    requires { ⌜ (row < 24) × (j < 24) ⌝ }
+    ensures { λ r. ⌜ r ≡ Pivoting.withPivot row j pivots ⌝ }
+{
+    let mut next = pivots;
+    next.remaining[j] = false;
+    next.column[row] = j;
+    next.rank = row + 1;
+    next
+}
+
+// Column j, of norm `norm`, is taken.
+fn taken(
+    left: &mut [f64],
+    coefficients: &mut [f64],
+    basis: &mut [f64],
+    n: usize,
+    m: usize,
+    p: usize,
+    row: usize,
+    j: usize,
+    norm: f64,
+    pivots: Pivots,
+) -> Pivots
+    requires { ⌜ (n * m ≤ length (now left)) × (p * m ≤ length (now coefficients)) × (n * p ≤ length (now basis)) × (row < p) × (j < m) × (n ≤ 48) × (m ≤ 24) × (p ≤ 24) ⌝ }
+    ensures { λ r. ⌜ pivoting (now (left .exit)) (now (coefficients .exit)) (now (basis .exit)) r ≡ Pivoting.taken n m p row j norm (pivoting (now (left .entry)) (now (coefficients .entry)) (now (basis .entry)) pivots) ⌝ }
+{
+    let y = dense::divided(matrix::column(&left[..], n, m, j), n, norm);
+    let next = with_pivot(row, j, pivots);
+    let remaining = next.remaining;
+    matrix::put(coefficients, p, m, row, j, norm);
+    with_basis(left, coefficients, basis, n, m, p, row, &y[..n], &remaining);
+    next
+}
+
+// Whether the loop goes on, and the columns taken.
+pub struct Turn {
+    pub more: bool,
+    pub pivots: Pivots,
+}
+
+fn pivot_step(
+    left: &mut [f64],
+    coefficients: &mut [f64],
+    basis: &mut [f64],
+    n: usize,
+    m: usize,
+    p: usize,
+    row: usize,
+    tolerance: f64,
+    pivots: Pivots,
+) -> Turn
+    requires { ⌜ (n * m ≤ length (now left)) × (p * m ≤ length (now coefficients)) × (n * p ≤ length (now basis)) × (row < p) × (n ≤ 48) × (m ≤ 24) × (p ≤ 24) ⌝ }
+    ensures { λ r. ⌜ out (r .more) (pivoting (now (left .exit)) (now (coefficients .exit)) (now (basis .exit)) (r .pivots)) ≡ Pivoting.pivotStep n m p tolerance row (pivoting (now (left .entry)) (now (coefficients .entry)) (now (basis .entry)) pivots) ⌝ }
+{
+    let remaining = pivots.remaining;
+    let best = largest_column(&left[..], n, m, &remaining);
+    let Largest::Found(j, norm) = best else {
+        return Turn {
+            more: false,
+            pivots: pivots,
+        };
+    };
+    if norm <= tolerance {
+        return Turn {
+            more: false,
+            pivots: pivots,
+        };
+    }
+    let next = taken(left, coefficients, basis, n, m, p, row, j, norm, pivots);
+    Turn {
+        more: true,
+        pivots: next,
+    }
+}
+
+// Gram-Schmidt with column pivoting and reorthogonalization; `left` starts as E.
+fn pivoted(
+    left: &mut [f64],
+    coefficients: &mut [f64],
+    basis: &mut [f64],
+    n: usize,
+    m: usize,
+    p: usize,
+    tolerance: f64,
+    start: Pivots,
+) -> Pivots
+    requires { ⌜ (n * m ≤ length (now left)) × (p * m ≤ length (now coefficients)) × (n * p ≤ length (now basis)) × (n ≤ 48) × (m ≤ 24) × (p ≤ 24) ⌝ }
+    ensures { λ r. ⌜ pivoting (now (left .exit)) (now (coefficients .exit)) (now (basis .exit)) r ≡ Pivoting.pivoted n m p tolerance (pivoting (now (left .entry)) (now (coefficients .entry)) (now (basis .entry)) start) ⌝ }
+{
+    let mut pivots = start;
+    for row in 0..p {
+        let turn = pivot_step(left, coefficients, basis, n, m, p, row, tolerance, pivots);
+        pivots = turn.pivots;
+        if turn.more {} else {
+            return pivots;
+        }
+    }
+    pivots
+}
+
+fn no_pivots() -> Pivots
+    ensures { λ r. ⌜ r ≡ Pivoting.noPivots ⌝ }
+{
+    Pivots {
+        column: [0; 24],
+        remaining: [true; 24],
+        rank: 0,
+    }
+}
+
+// E = YT. T and Y start as zeros.
+pub fn factored(
+    e: &[f64],
+    n: usize,
+    m: usize,
+    p: usize,
+    left: &mut [f64],
+    coefficients: &mut [f64],
+    basis: &mut [f64],
+) -> Pivots
+    requires { ⌜ (n * m ≤ length (now e)) × (length (now left) ≡ n * m) × (now coefficients ≡ filled (p * m) f0) × (now basis ≡ filled (n * p) f0) × (p ≤ m) × (n ≤ 48) × (m ≤ 24) ⌝ }
+    ensures { λ r. ⌜ pivoting (now (left .exit)) (now (coefficients .exit)) (now (basis .exit)) r ≡ Pivoting.factored n m p (now (e .entry)) ⌝ }
+    ensures { λ r. ⌜ Taken p m r ⌝ }
+{
+    vector::copy(e, n * m, left);
+    pivoted(
+        left,
+        coefficients,
+        basis,
+        n,
+        m,
+        p,
+        tolerance(e, n, m),
+        no_pivots(),
+    )
+}
