@@ -93,8 +93,7 @@ pub fn checked(x: &[f64], e: &[f64], b: &[f64], columns: &[f64], n: usize, m: us
     ensures { λ r. ⌜ r ≡ Units.checked n m (now (x .entry)) (now (e .entry)) (now (b .entry)) (now (columns .entry)) ⌝ }
 {
     for j in 0..m {
-        if met(x, matrix::column(e, n, m, j), n, b[j], columns[j]) {
-        } else {
+        if met(x, matrix::column(e, n, m, j), n, b[j], columns[j]) {} else {
             return false;
         }
     }

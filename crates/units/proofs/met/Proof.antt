@@ -12,5 +12,5 @@ met-spec =
     (λ c κs. search needs)  -- terms-requires
     (λ c. search needs)  -- array-share-prefix-terms
     (λ c. sym (length-take-le _ _ (omega arith)))  -- slice-aggregate-column-met
-    (λ c κs. rw (length-take-le _ _ (omega arith)) (omega arith))  -- column-met-requires
+    (λ c κs. omega (arith, length-take-le (c .before .before .before .before .args .n) (c .before .terms .result) (omega arith)))  -- column-met-requires
     (λ c. rw (c .column-met .ensures, c .before .before .terms .ensures)))  -- returns
