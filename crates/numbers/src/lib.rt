@@ -1,6 +1,7 @@
 // The numbers of a field, their ranges, and verdicts.
 ghost use mathlib.Core.Path.{_≡_};
 ghost use Prim.Native.Nat.{_≤_, _<_};
+ghost use lib.Signed.{leZ};
 ghost use Rattle.format.specs.Read as Read;
 use format::Verdict;
 
@@ -69,6 +70,34 @@ pub fn is_zero(z: i64) -> bool
     ensures { λ r. ⌜ r ≡ Read.isZero z ⌝ }
 {
     if z <= 0 { 0 <= z } else { false }
+}
+
+pub fn i8_within(most: u64, b: &[u8], i: usize) -> bool
+    requires { ⌜ most ≤ 8388608 ⌝ }
+    ensures { λ r. ⌜ r ≡ Read.within most (Read.i8At (now (b .entry)) i) ⌝ }
+{
+    within(most, i8_at(b, i))
+}
+
+pub fn i8_is_zero(b: &[u8], i: usize) -> bool
+    ensures { λ r. ⌜ r ≡ Read.isZero (Read.i8At (now (b .entry)) i) ⌝ }
+{
+    is_zero(i8_at(b, i))
+}
+
+pub fn i32_within(most: u64, b: &[u8], i: usize) -> bool
+    requires { ⌜ (most ≤ 8388608) × (i ≤ 30) ⌝ }
+    ensures { λ r. ⌜ r ≡ Read.within most (Read.i32At (now (b .entry)) i) ⌝ }
+{
+    within(most, i32_at(b, i))
+}
+
+// Whether the number at i is at most that at j.
+pub fn i32_le(b: &[u8], i: usize, j: usize) -> bool
+    requires { ⌜ (i ≤ 30) × (j ≤ 30) ⌝ }
+    ensures { λ r. ⌜ r ≡ leZ (Read.i32At (now (b .entry)) i) (Read.i32At (now (b .entry)) j) ⌝ }
+{
+    i32_at(b, i) <= i32_at(b, j)
 }
 
 // Document 01's number of a refusal; 0 where there is none.
