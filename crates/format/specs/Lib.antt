@@ -1,0 +1,3 @@
+-- The block file: what a list of bytes is read as, and how the code's structs hold it.
+pub mod Read
+pub mod Structs
