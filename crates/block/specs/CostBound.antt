@@ -15,11 +15,12 @@ use Rattle.block.specs.Block.{Block, Item, word, tempo, anchor, span, it
 use Rattle.block.specs.Plan.{time, size, square, sumOf, move, moves, bend, squareOf, cost}
 use Rattle.block.specs.Keeps.{Keeps}
 use Rattle.block.specs.Gap.{Prices, price, coefOf, slopeOf, g, anchorPart, spanPart, h, leastAt, own, words, values, ends, gap}
+use Rattle.block.specs.Ranges.{Ranged}
 use Rattle.block.specs.Least.{falls, least-over}
 use Rattle.block.specs.Finer.{moveOver, movesOver, bendOver, squareOver, costOver, KeepsOver}
 
 -- ---- sums by words and by lists
-abbrev pub Listed : ℕ → List Item → Type 0
+abbrev Listed : ℕ → List Item → Type 0
 Listed n l = (k : ℕ) → k < length l → item l k .word < n
 
 -- each coefficient by its word's time, over all words, is the list's sum
@@ -108,10 +109,10 @@ join : (d : ℕ) (q₀ q g g₀ k k₀ l pv mx e : ℤ) → slide (pos d) q₀ g
 join d = split _ λ q₁ q₂. split _ λ r₁ r₂. split _ λ g₁ g₂. split _ λ g₃ g₄. split _ λ k₁ k₂. split _ λ k₃ k₄. split _ λ l₁ l₂. split _ λ p₁ p₂. split _ λ x₁ x₂. split _ λ e₁ e₂. simp ring (omega arith)
 
 -- every list's word numbers are below the number of words (document 01: else refused with 7)
-pub record Numbered (b : Block) : Type 0 where
-  pub tempos : (j : ℕ) → j < length (b .tempos) → Listed (length (b .words)) (tempo b j .list)
-  pub anchors : (k : ℕ) → k < length (b .anchors) → Listed (length (b .words)) (anchor b k .list)
-  pub spans : (k : ℕ) → k < length (b .spans) → Listed (length (b .words)) (span b k .list)
+record Numbered (b : Block) : Type 0 where
+  tempos : (j : ℕ) → j < length (b .tempos) → Listed (length (b .words)) (tempo b j .list)
+  anchors : (k : ℕ) → k < length (b .anchors) → Listed (length (b .words)) (anchor b k .list)
+  spans : (k : ℕ) → k < length (b .spans) → Listed (length (b .words)) (span b k .list)
 
 open-up : (g a s z k c m : ℤ) → (g +ℤ a +ℤ s) *ℤ z +ℤ (k +ℤ c) *ℤ m ≡ g *ℤ z +ℤ a *ℤ z +ℤ s *ℤ z +ℤ k *ℤ m +ℤ c *ℤ m
 open-up = split _ λ g₁ g₂. split _ λ a₁ a₂. split _ λ s₁ s₂. split _ λ z₁ z₂. split _ λ k₁ k₂. split _ λ c₁ c₂. split _ λ m₁ m₂. simp ring (omega arith)
@@ -181,7 +182,7 @@ module _ (d : ℕ) (b : Block) (num : Numbered b) (x y : List ℤ) (p : Prices) 
   words-is = Σ-minus n (λ i. g b x i *ℤ time x i +ℤ k₀ i) (leastAt b x p) ∙ ap (λ z. z -ℤ Σ n (leastAt b x p)) (Σ-plus n (λ i. g b x i *ℤ time x i) k₀)
 
   -- d² cost x ≤ cost y (times d²) + d² gap
-  pub bound-over : (pos d *ℤ (pos d *ℤ cost b x)) ≤ℤ (costOver d b y +ℤ pos d *ℤ (pos d *ℤ gap b x p))
+  bound-over : (pos d *ℤ (pos d *ℤ cost b x)) ≤ℤ (costOver d b y +ℤ pos d *ℤ (pos d *ℤ gap b x p))
   unfolding cost costOver gap sq₀ sq k₀ k
   bound-over =
       rw words-is
@@ -215,11 +216,21 @@ module _ (b : Block) (y : List ℤ) where
 over : (c q e : ℤ) → c ≤ℤ (q +ℤ e) → (c -ℤ e) ≤ℤ q
 over = split _ λ a b. split _ λ c d. split _ λ e f. simp diff (omega arith)
 
--- The theorem: for every list of times x and all prices, a whole-sample plan y that keeps the block costs at least cost x − gap.
-pub bound : (b : Block) → Numbered b → (x : List ℤ) (p : Prices) (y : List ℤ) → Keeps b y → (cost b x -ℤ gap b x p) ≤ℤ cost b y
+bound : (b : Block) → Numbered b → (x : List ℤ) (p : Prices) (y : List ℤ) → Keeps b y → (cost b x -ℤ gap b x p) ≤ℤ cost b y
 bound b num x p y keeps =
     over (cost b x) (cost b y) (gap b x p)
     (subst₂ _≤ℤ_
     (one-* (pos 1 *ℤ cost b x) ∙ one-* (cost b x))
     (ap₂ _+ℤ_ (cost-one b y) (one-* (pos 1 *ℤ gap b x p) ∙ one-* (gap b x p)))
     (bound-over 1 b num x y p (keeps-one b y keeps)))
+
+-- ---- The theorem: whatever the times x and the prices, a whole-sample plan y that keeps the block costs at least cost x − gap.
+numbered : {b : Block} → Ranged b → Numbered b
+numbered B = record { tempos = λ j l. B .each-tempo j l .list .named; anchors = λ k l. B .each-anchor k l .list .named; spans = λ k l. B .each-span k l .list .named }
+
+pub cost-bound : {b : Block} → Ranged b → (x : List ℤ) (p : Prices) (y : List ℤ) → Keeps b y → (cost b x -ℤ gap b x p) ≤ℤ cost b y
+cost-bound {b} B x p y k = bound b (numbered B) x p y k
+
+-- and against every plan y / d whose times are whole numbers over d
+pub cost-bound-over : {b : Block} → Ranged b → (x : List ℤ) (p : Prices) (d : ℕ) (y : List ℤ) → KeepsOver d b y → (pos d *ℤ (pos d *ℤ cost b x)) ≤ℤ (costOver d b y +ℤ pos d *ℤ (pos d *ℤ gap b x p))
+cost-bound-over {b} B x p d y k = bound-over d b (numbered B) x y p k

@@ -8,4 +8,4 @@ pub mod Ranges
 -- and what holds of them: the bound on the cost, and that every number fits signed 64 bits
 pub mod Least
 pub mod CostBound
--- pub mod Fits
+pub mod Fits
