@@ -21,10 +21,10 @@ use Rattle.block.specs.Plan.{time, size, product, sumOf, move, moves, be
 use Rattle.block.specs.Keeps.{anchorMiss, outside, spanMiss, coefSize, coefSizes}
 use Rattle.block.specs.Gap.{Prices, price, coefAt, coefOf, slopeOf, g, anchorPart, spanPart, h, line, candidates, least, leastAt, own, words, values, ends, gap}
 use Rattle.block.specs.Least.{least-b, candidates-b}
-use Rattle.block.specs.Ranges.{RangedList, RangedWord, RangedTempo, RangedAnchor, RangedSpan, Ranged, Timed, Priced}
+use Rattle.block.specs.Ranges.{Short, RangedList, RangedWord, RangedTempo, RangedAnchor, RangedSpan, Ranged, Timed, Priced}
 
 -- ---- a list
-module _ {n : ℕ} {l : List Item} (L : RangedList n l) where
+module _ {l : List Item} (L : Short l) where
   pub coef-b : (k : ℕ) → k < length l → item l k .coef ≼ 8
   coef-b k h = record { size = L .small k h }
 
@@ -43,16 +43,16 @@ module _ {n : ℕ} {l : List Item} (L : RangedList n l) where
   unfolding coefSizes
   coefSizes-b = sizes-b (length l) (le-refl (length l))
 
-  module _ {x : List ℤ} (X : Timed n x) where
-    pub time-b : (k : ℕ) → k < length l → time x (item l k .word) ≼ 262144
-    time-b k h = record { size = X .near (item l k .word) (L .named k h) }
+module _ {n : ℕ} {l : List Item} (L : RangedList n l) {x : List ℤ} (X : Timed n x) where
+  pub time-b : (k : ℕ) → k < length l → time x (item l k .word) ≼ 262144
+  time-b k h = record { size = X .near (item l k .word) (L .named k h) }
 
-    pub products-b : (k : ℕ) → k ≤ length l → Σ k (product l x) ≼ 8388608
-    products-b k h = loose (omega (arith, L .few)) (Σ-b k {a = 2097152} (product l x) (λ j m. coef-b j (omega arith) *b time-b j (omega arith)))
+  pub products-b : (k : ℕ) → k ≤ length l → Σ k (product l x) ≼ 8388608
+  products-b k h = loose (omega (arith, L .short .few)) (Σ-b k {a = 2097152} (product l x) (λ j m. coef-b (L .short) j (omega arith) *b time-b j (omega arith)))
 
-    pub sumOf-b : sumOf l x ≼ 8388608
-    unfolding sumOf
-    sumOf-b = products-b (length l) (le-refl (length l))
+  pub sumOf-b : sumOf l x ≼ 8388608
+  unfolding sumOf
+  sumOf-b = products-b (length l) (le-refl (length l))
 
 -- ---- a word
 module _ {w : Word} (W : RangedWord w) {t : ℤ} (near : t ≼ 262144) where
@@ -85,7 +85,7 @@ module _ {n : ℕ} {x : List ℤ} (X : Timed n x) where
 
   pub slopeOf-b : {t : Tempo} → RangedTempo n t → (i : ℕ) → slopeOf t x i ≼ 34359738368
   unfolding slopeOf
-  slopeOf-b T i = pos-b (T .weight) *b off-b T *b coefOf-b (T .list) i
+  slopeOf-b T i = pos-b (T .weight) *b off-b T *b coefOf-b (T .list .short) i
 
   pub anchorMiss-b : {a : Anchor} → RangedAnchor n a → anchorMiss a x ≼ 16777216
   unfolding anchorMiss
@@ -119,7 +119,7 @@ coef-mass : (i : ℕ) (l : List Item) → coefOf i l ≼ mass i l
 unfolding coefOf mass
 coef-mass i l = Σ-under (length l) _ _ (λ k b. at-under (item l k .word) i (item l k .coef))
 
-mass-all : (n : ℕ) (l : List Item) → RangedList n l → Σℕ n (λ i. mass i l) ≤ 32
+mass-all : (n : ℕ) (l : List Item) → Short l → Σℕ n (λ i. mass i l) ≤ 32
 unfolding mass
 mass-all n l s =
     le-trans (le-of-eq (Σℕ-swap n (length l) (λ i k. atℕ (item l k .word) i (natAbs (item l k .coef)))))
@@ -138,7 +138,7 @@ share-all : (n r m : ℕ) (l : ℕ → List Item) → ((j : ℕ) → j < m → R
 unfolding share
 share-all n r m l s =
     le-trans (le-of-eq (Σℕ-times r n (λ i. Σℕ m (λ j. mass i (l j)))))
-    (mul-le-mul-left r (le-trans (le-of-eq (Σℕ-swap n m (λ i j. mass i (l j)))) (le-trans (Σℕ-le m _ (λ j. 32) (λ j b. mass-all n (l j) (s j b))) (le-of-eq (Σℕ-const m 32)))))
+    (mul-le-mul-left r (le-trans (le-of-eq (Σℕ-swap n m (λ i j. mass i (l j)))) (le-trans (Σℕ-le m _ (λ j. 32) (λ j b. mass-all n (l j) (s j b .short))) (le-of-eq (Σℕ-const m 32)))))
 
 lin : (n t c d : ℕ) (a b : ℕ → ℕ) → Σℕ n (λ i. a i * t + c + (b i * t + d)) ≡ Σℕ n a * t + n * c + (Σℕ n b * t + n * d)
 unfolding Σℕ fold
@@ -175,14 +175,14 @@ module _ {b : Block} (B : Ranged b) {p : Prices} (P : Priced p) where
   span-price k = record { size = P .spans k }
 
   pub anchorParts-b : (i k : ℕ) → k ≤ length (b .anchors) → Σ k (λ a. price (p .anchors) a *ℤ coefOf i (anchor b a .list)) ≼ 1099511627776
-  anchorParts-b i k l = loose (omega (arith, B .anchors)) (Σ-b k {a = 137438953472} _ (λ a m. anchor-price a *b coefOf-b (B .each-anchor a (omega arith) .list) i))
+  anchorParts-b i k l = loose (omega (arith, B .anchors)) (Σ-b k {a = 137438953472} _ (λ a m. anchor-price a *b coefOf-b (B .each-anchor a (omega arith) .list .short) i))
 
   pub anchorPart-b : (i : ℕ) → anchorPart b (p .anchors) i ≼ 1099511627776
   unfolding anchorPart
   anchorPart-b i = anchorParts-b i (length (b .anchors)) (le-refl (length (b .anchors)))
 
   pub spanParts-b : (i k : ℕ) → k ≤ length (b .spans) → Σ k (λ a. price (p .spans) a *ℤ coefOf i (span b a .list)) ≼ 2199023255552
-  spanParts-b i k l = loose (omega (arith, B .spans)) (Σ-b k {a = 137438953472} _ (λ a m. span-price a *b coefOf-b (B .each-span a (omega arith) .list) i))
+  spanParts-b i k l = loose (omega (arith, B .spans)) (Σ-b k {a = 137438953472} _ (λ a m. span-price a *b coefOf-b (B .each-span a (omega arith) .list .short) i))
 
   pub spanPart-b : (i : ℕ) → spanPart b (p .spans) i ≼ 2199023255552
   unfolding spanPart

@@ -8,10 +8,13 @@ use Rattle.block.specs.Plan.{time}
 use Rattle.block.specs.Gap.{Prices, price}
 
 -- ---- a block of n words. (That a list has a pair, that its word numbers rise, that no coefficient and no weight is 0: no theorem needs it.)
-pub record RangedList (n : ℕ) (l : List Item) : Type 0 where
+pub record Short (l : List Item) : Type 0 where
   pub few : length l ≤ 4
-  pub named : (k : ℕ) → k < length l → item l k .word < n
   pub small : (k : ℕ) → k < length l → natAbs (item l k .coef) ≤ 8
+
+pub record RangedList (n : ℕ) (l : List Item) : Type 0 where
+  pub short : Short l
+  pub named : (k : ℕ) → k < length l → item l k .word < n
 
 pub record RangedWord (w : Word) : Type 0 where
   pub lower : w .lower ≤ 262144
