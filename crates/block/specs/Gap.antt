@@ -20,8 +20,11 @@ abbrev pub price : List ℤ → ℕ → ℤ
 price p k = getD p k (pos 0)
 
 -- the coefficient of word i in a list, 0 where the list has it not
+abbrev pub coefAt : ℕ → List Item → ℕ → ℤ
+coefAt i l k = at (item l k .word) i (item l k .coef)
+
 unfoldable pub coefOf : ℕ → List Item → ℤ
-coefOf i l = Σ (length l) (λ k. at (item l k .word) i (item l k .coef))
+coefOf i l = Σ (length l) (coefAt i l)
 
 -- "weight × (sum − target) × coefficient"
 unfoldable pub slopeOf : Tempo → List ℤ → ℕ → ℤ

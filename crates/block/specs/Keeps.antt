@@ -36,8 +36,11 @@ spanMiss s x = outside (s .lower) (s .upper) (sumOf (s .list) x)
 unfoldable pub windowKept : Word → ℤ → Bool
 windowKept w t = both (leZ (pos (w .lower)) t) (leZ t (pos (w .upper)))
 
+abbrev pub coefSize : List Item → ℕ → ℤ
+coefSize l k = size (item l k .coef)
+
 unfoldable pub coefSizes : List Item → ℤ
-coefSizes l = Σ (length l) (λ k. size (item l k .coef))
+coefSizes l = Σ (length l) (coefSize l)
 
 unfoldable pub missBounded : ℤ → List Item → Bool
 missBounded miss l = leZ (pos 2 *ℤ miss) (coefSizes l)

@@ -6,6 +6,6 @@ pub mod Gap
 pub mod Finer
 pub mod Ranges
 -- and what holds of them: the bound on the cost, and that every number fits signed 64 bits
--- pub mod Least
--- pub mod Bounded
--- pub mod Fits
+pub mod Least
+pub mod CostBound
+pub mod Fits

@@ -18,8 +18,11 @@ abbrev pub square : ℤ → ℤ
 square z = z *ℤ z
 
 -- "A list's sum is coefficients times times."
+abbrev pub product : List Item → List ℤ → ℕ → ℤ
+product l x k = item l k .coef *ℤ time x (item l k .word)
+
 unfoldable pub sumOf : List Item → List ℤ → ℤ
-sumOf l x = Σ (length l) (λ k. item l k .coef *ℤ time x (item l k .word))
+sumOf l x = Σ (length l) (product l x)
 
 -- "A word's move is |time − key|."
 unfoldable pub move : Word → ℤ → ℤ
