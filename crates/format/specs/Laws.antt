@@ -8,9 +8,10 @@ use lib.Dec.{leb, ltb, eqb}
 use lib.ListN.{take}
 use borrow.Author.Tests.{lt-leb, le-leb, lt-ltb, le-ltb, eq-eqb, ne-eqb}
 use Rattle.folds.specs.Fold.{Out, out, walk, walk-call, walk-stop, walk-end, both, both-stop, both-on, picks, tests}
-use Rattle.block.specs.Block.{Item}
-use Rattle.format.specs.Read.{need, after, accepted, judged, verdict, pairVerdict, pairsVerdict}
+use Rattle.block.specs.Block.{Item, Block}
+use Rattle.format.specs.Read.{need, after, accepted, judged, verdict, pairVerdict, pairsVerdict, hasRoom, bodyVerdict, withBody}
 use Rattle.format.specs.Structs.{pairOf}
+use Rattle.format.specs.declared.Counts.{Counts}
 use Rattle.format.specs.declared.Pair.{Pair}
 use Rattle.format.specs.declared.Verdict.{Verdict}
 use Rattle.format.specs.declared.Verdict.the-variants.{Accepted, BadLength, UnknownTag, OutOfOrder, TooMany, OutOfRange, CrossedBounds, BadList}
@@ -89,7 +90,12 @@ test-is e h = sym e ∙ h
 pub accepted-is : {r t : Bool} {v w : Verdict} → r ≡ accepted v → v ≡ w → r ≡ t → accepted w ≡ t
 accepted-is e f h = rw (← f) (sym e ∙ h)
 
-pub ruleset calls = (accepted-is, upto-yes, upto-no, from-yes, from-no, below-yes, below-no, same-yes, same-no, order-yes, order-no, order-is, test-is)
+pub room-is : {r v : Bool} {t u : ℕ} (so : Counts) → r ≡ hasRoom t so → t ≡ u → r ≡ v → hasRoom u so ≡ v
+room-is so e f h = rw (← f) (sym e ∙ h)
+
+pub ruleset calls = (accepted-is, room-is, upto-yes, upto-no, from-yes, from-no, below-yes, below-no, same-yes, same-no, test-is)
+
+pub ruleset orders = (order-yes, order-no, order-is)
 
 pub ruleset verdicts = (need-stop, need-on, after-stop, both-first, both-second, both-yes, not-true, not-false, picks, tests, calls)
 
@@ -134,3 +140,10 @@ pub list-from : (k : ℕ) {p q r s : Pair} {a b c d : Item} → pairOf p ≡ a �
 list-from k {p} {q} {r} {s} {a} {b} {c} {d} e f g h =
     let l : map pairOf (p ∷ q ∷ r ∷ s ∷ []) ≡ a ∷ b ∷ c ∷ d ∷ [] = cc in
     map-take pairOf k (p ∷ q ∷ r ∷ s ∷ []) ∙ ap (take k) l
+
+-- ---- equal arguments
+pub body-same : {t u : ℕ} {a b : List ℕ} {m n : ℕ} (words : ℕ) → t ≡ u → a ≡ b → m ≡ n → bodyVerdict t a words m ≡ bodyVerdict u b words n
+body-same words p q s = cc
+
+pub with-same : {t u : ℕ} {a b : List ℕ} {m n : ℕ} (k : Block) → t ≡ u → a ≡ b → m ≡ n → withBody t a m k ≡ withBody u b n k
+with-same k p q s = cc

@@ -2,3 +2,4 @@
 pub mod Read
 pub mod Structs
 pub mod Laws
+pub mod Whole

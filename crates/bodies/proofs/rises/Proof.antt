@@ -1,5 +1,5 @@
 use borrow.Author.Needs.{needs}
-use Rattle.format.specs.Laws.{verdicts}
+use Rattle.format.specs.Laws.{verdicts, orders}
 use Rattle.format.specs.Read.{rises}
 use Rattle.bodies.proofs.rises.Statement.{statement}
 use Rattle.bodies.proofs.rises.Tie as tie
@@ -9,7 +9,7 @@ unfolding rises
 rises-spec =
     tie.close
     (tie.spec
-    (λ c. search verdicts)
+    (λ c. search (verdicts, orders))
     (λ c. search needs)
     (λ c. search needs)
     (λ c. search needs)
@@ -18,4 +18,4 @@ rises-spec =
     (λ c. search needs)
     (λ c. search needs)
     (λ c κs. search needs)
-    (λ c. search verdicts))
+    (λ c. search (verdicts, orders)))
