@@ -3,3 +3,8 @@ pub mod Read
 pub mod Structs
 pub mod Laws
 pub mod Whole
+pub mod More
+pub mod Loop
+pub mod Signed
+pub mod InRange
+pub mod Known
