@@ -94,8 +94,10 @@ module _ (b : List ℕ) (p words : ℕ) where
   list-ranged n l e =
       let a = need-held (eqb (byteAt b p) n) BadList _ refl e in
       let s = length-is n l in
-      record { short = record { few = rw s l; small = λ k h. rw (item-is n k (rw s at h) l) (pair-ranged k (walk-each (pairVerdict b p words) n (a .1) k (rw s at h)) .1) };
-               named = λ k h. rw (item-is n k (rw s at h) l) (pair-ranged k (walk-each (pairVerdict b p words) n (a .1) k (rw s at h)) .0) }
+      record {
+        short = record { few = rw s l; small = λ k h. rw (item-is n k (rw s at h) l) (pair-ranged k (walk-each (pairVerdict b p words) n (a .1) k (rw s at h)) .1) };
+        named = λ k h. rw (item-is n k (rw s at h) l) (pair-ranged k (walk-each (pairVerdict b p words) n (a .1) k (rw s at h)) .0);
+      }
 
 -- a block with more words
 list-grows : {n m : ℕ} {l : List Item} → n ≤ m → RangedList n l → RangedList m l

@@ -91,13 +91,15 @@ module _ (s : List ℕ) (at last : ℕ) (k : Held.Block) (p : At s at last k) wh
       unfolding fieldVerdict
       at-whole = whole (rest s at) last (countsOf k) (after-held (headVerdict (rest s at) last (countsOf k)) _ (ap accepted (sym e) ∙ h) .0)
 
+      pub at-place : at + 3 + len (rest s at) ≤ length s
+      at-place = let w = at-whole in omega (arith, w .header, w .body, ap length rest-is, length-drop at s)
+
       pub at-next : (q : Held.Block) (t n : ℕ) → blockOf q ≡ withField (rest s at) (blockOf k) → Sound q → t ≡ tag (rest s at) → n ≡ len (rest s at) → At s (at + 3 + n) t q
       at-next q t n b o a l =
-          let w = at-whole in
           let f = e ∙ verdict-is in
           let m : at + (3 + len (drop at s)) ≡ at + 3 + n = omega (arith, l, ap len rest-is) in
           let d : drop (3 + len (drop at s)) (drop at s) ≡ drop (at + 3 + n) s = drop-drop (3 + len (drop at s)) at s ∙ ap (λ j. drop j s) m in
-          record { place = omega (arith, w .header, w .body, ap length rest-is, length-drop at s, l); sound = o; left = rw (b, a, rest-is, ← d) (left-step s (drop at s) last (blockOf k) some-left (ap accepted (sym f) ∙ h) (p .left)) }
+          record { place = omega (arith, at-place, l); sound = o; left = rw (b, a, rest-is, ← d) (left-step s (drop at s) last (blockOf k) some-left (ap accepted (sym f) ∙ h) (p .left)) }
 
   pub at-end : length s ≤ at → (v : Verdict) → v ≡ endVerdict last (k .words) → outcome v (blockOf k) ≡ read s
   unfolding counts
