@@ -12,7 +12,7 @@ use Rattle.ints.specs.Diff.{diff, ring, split, maxℤ, ≤-or}
 use Rattle.ints.specs.Order.{*-assoc, *-swap, one-*, ≤-trans, ≤-plus, ≤-times, ≤-scale, nonneg-square, nonneg-times}
 use Rattle.ints.specs.Sum.{Σ, at, Σ-ext, Σ-le, Σ-plus, Σ-minus, Σ-times, Σ-by, Σ-swap, Σ-at, at-times}
 use Rattle.block.specs.Block.{Block, Item, word, tempo, anchor, span, item}
-use Rattle.block.specs.Plan.{time, size, square, sumOf, move, moves, bend, squareOf, cost}
+use Rattle.block.specs.Plan.{time, size, square, sumOf, move, moves, bend, squareOf, squares, bends, cost}
 use Rattle.block.specs.Keeps.{Keeps}
 use Rattle.block.specs.Gap.{Prices, price, coefOf, slopeOf, g, anchorPart, spanPart, h, leastAt, own, words, values, ends, gap}
 use Rattle.block.specs.Ranges.{Ranged}
@@ -145,9 +145,9 @@ module _ (d : ℕ) (b : Block) (num : Numbered b) (x y : List ℤ) (p : Prices) 
   G₀ : ℤ
   G₀ = Σ n (λ i. g b x i *ℤ time x i)
 
-  squares : slide (pos d) (Σ (length (b .tempos)) sq₀) G G₀ ≤ℤ Σ (length (b .tempos)) sq
+  sliding : slide (pos d) (Σ (length (b .tempos)) sq₀) G G₀ ≤ℤ Σ (length (b .tempos)) sq
   unfolding g slopeOf squareOf squareOver sq₀ sq r G G₀
-  squares =
+  sliding =
       subst₂ (λ u v. slide (pos d) (Σ (length (b .tempos)) sq₀) u v ≤ℤ Σ (length (b .tempos)) sq)
       (sym (lists n (length (b .tempos)) r (λ j. tempo b j .list) y (num .tempos)))
       (sym (lists n (length (b .tempos)) r (λ j. tempo b j .list) x (num .tempos)))
@@ -183,11 +183,11 @@ module _ (d : ℕ) (b : Block) (num : Numbered b) (x y : List ℤ) (p : Prices) 
 
   -- d² cost x ≤ cost y (times d²) + d² gap
   bound-over : (pos d *ℤ (pos d *ℤ cost b x)) ≤ℤ (costOver d b y +ℤ pos d *ℤ (pos d *ℤ gap b x p))
-  unfolding cost costOver gap sq₀ sq k₀ k
+  unfolding cost squares bends costOver gap sq₀ sq k₀ k
   bound-over =
       rw words-is
       (join d (Σ (length (b .tempos)) sq₀) (Σ (length (b .tempos)) sq) G G₀ (Σ n k) (Σ n k₀) (Σ n (leastAt b x p)) (values b (p .anchors)) (ends b (p .spans)) (pos (p .cap) *ℤ pos (b .cap))
-      squares
+      sliding
       (nonneg-times d _
       (rest d (p .cap) G (Σ n k) (Σ n (leastAt b x p)) (Σ n (λ i. anchorPart b (p .anchors) i *ℤ time y i)) (Σ n (λ i. spanPart b (p .spans) i *ℤ time y i)) (movesOver d b y) (values b (p .anchors)) (ends b (p .spans)) (pos (b .cap))
       by-words at-anchors at-spans (≤-scale (p .cap) (movesOver d b y) (pos d *ℤ pos (b .cap)) (keeps .cap)))))
@@ -199,7 +199,7 @@ module _ (b : Block) (y : List ℤ) where
   move-one i = ap (λ z. size (time y i -ℤ z)) (one-* (pos (word b i .key)))
 
   cost-one : costOver 1 b y ≡ cost b y
-  unfolding cost costOver squareOf squareOver bend bendOver
+  unfolding cost squares bends costOver squareOf squareOver bend bendOver
   cost-one = ap₂ _+ℤ_
       (Σ-ext (length (b .tempos)) _ _ (λ j l. ap (λ z. pos (tempo b j .weight) *ℤ square (sumOf (tempo b j .list) y -ℤ z)) (one-* (tempo b j .target))))
       (one-* _ ∙ ap (λ z. pos 2 *ℤ z) (Σ-ext (length (b .words)) _ _ (λ i l. ap (λ z. pos (word b i .slope) *ℤ z) (move-one i))))

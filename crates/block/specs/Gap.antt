@@ -8,7 +8,7 @@ use Rattle.folds.specs.Fold.{both, pick}
 use Rattle.ints.specs.Diff.{minℤ, maxℤ}
 use Rattle.ints.specs.Sum.{Σ, at}
 use Rattle.block.specs.Block.{Block, Word, Item, Tempo, word, tempo, anchor, span, item}
-use Rattle.block.specs.Plan.{time, sumOf, move, bend}
+use Rattle.block.specs.Plan.{time, off, move, bend}
 
 -- "prices: anchors, spans, cap"
 pub record Prices : Type 0 where
@@ -28,7 +28,7 @@ coefOf i l = Σ (length l) (coefAt i l)
 
 -- "weight × (sum − target) × coefficient"
 unfoldable pub slopeOf : Tempo → List ℤ → ℕ → ℤ
-slopeOf t x i = pos (t .weight) *ℤ (sumOf (t .list) x -ℤ t .target) *ℤ coefOf i (t .list)
+slopeOf t x i = pos (t .weight) *ℤ off t x *ℤ coefOf i (t .list)
 
 -- "For each word let g be half the slope of the square part (weight × (sum − target) × coefficient, added up)"
 unfoldable pub g : Block → List ℤ → ℕ → ℤ
