@@ -61,12 +61,12 @@ unfoldable pub least : (ℤ → ℤ) → List ℤ → ℤ
 least f [] = pos 0
 least f (t ∷ ts) = leastFrom (f t) f ts
 
-unfoldable pub leastAt : Block → List ℤ → Prices → ℕ → ℤ
-leastAt b x p i = least (line (word b i) (h b x p i) (p .cap)) (candidates (word b i))
+-- "g × time + slope × |time − key| − the least", of word w with its g, its h, the cap's price r and its time t
+unfoldable pub ownPart : Word → ℤ → ℤ → ℕ → ℤ → ℤ
+ownPart w s u r t = s *ℤ t +ℤ bend w t -ℤ least (line w u r) (candidates w)
 
--- "g × time + slope × |time − key| − the least"
 unfoldable pub own : Block → List ℤ → Prices → ℕ → ℤ
-own b x p i = g b x i *ℤ time x i +ℤ bend (word b i) (time x i) -ℤ leastAt b x p i
+own b x p i = ownPart (word b i) (g b x i) (h b x p i) (p .cap) (time x i)
 
 -- "Gap = 2 × the words' sum of [..], plus 2 × each anchor price × value, plus 2 × the larger of price × lower and price × upper for each span, plus
 -- 2 × cap price × cap."

@@ -1,7 +1,10 @@
 // A plan's sums, moves and cost in whole numbers: signed 64 bits hold each number on the way. The definitions are `block`'s.
 // A plan is the caller's slice of i32s, as the check is handed it and as the answer file has it: one time for each word.
-use format::{Block, Pair, Pairs, Tempo, Word};
-
+use format::Block;
+use format::Pair;
+use format::Pairs;
+use format::Tempo;
+use format::Word;
 ghost use mathlib.Core.Path.{_≡_};
 ghost use Prim.Native.Nat.{_<_};
 ghost use lib.ListN.{length};
