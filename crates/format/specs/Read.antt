@@ -229,6 +229,9 @@ count t n =
     (pick (eqb t spanTag) (pairsIn 9 n)
     (pick (eqb n 4) 1 0))))
 
+abbrev pub countOf : List ℕ → ℕ
+countOf r = count (tag r) (len r)
+
 -- ---- a field. `last` is the tag of the field before, 0 before the first; `so` how many fields of each tag stand before
 -- "Tags never fall", and the cap is last: after it no tag is in order
 abbrev pub inOrder : ℕ → ℕ → Bool
@@ -249,7 +252,7 @@ headVerdict r last so =
     (need (oneTo capTag (tag r)) UnknownTag
     (need (inOrder last (tag r)) OutOfOrder
     (need (hasRoom (tag r) so) TooMany
-    (need (leb 1 (count (tag r) (len r))) BadLength
+    (need (leb 1 (countOf r)) BadLength
     (need (leb (len r) (length r - 3)) BadLength
     Accepted)))))
 
@@ -262,7 +265,7 @@ bodyVerdict t b words n =
     (capVerdict b))))
 
 unfoldable pub fieldVerdict : List ℕ → ℕ → Counts → Verdict
-fieldVerdict r last so = after (headVerdict r last so) (bodyVerdict (tag r) (body r) (so .words) (count (tag r) (len r)))
+fieldVerdict r last so = after (headVerdict r last so) (bodyVerdict (tag r) (body r) (so .words) (countOf r))
 
 -- the block with one field more
 abbrev pub withWord : Word → Block → Block
@@ -289,7 +292,7 @@ withBody t b n k =
     (withCap (u32At b 0) k))))
 
 unfoldable pub withField : List ℕ → Block → Block
-withField r k = withBody (tag r) (body r) (count (tag r) (len r)) k
+withField r k = withBody (tag r) (body r) (countOf r) k
 
 -- ---- the file. "Fields are judged left to right"
 pub data Outcome : Type 0 where

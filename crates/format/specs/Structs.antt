@@ -15,6 +15,7 @@ use Rattle.format.specs.declared.Tempo.{Tempo}
 use Rattle.format.specs.declared.Anchor.{Anchor}
 use Rattle.format.specs.declared.Span.{Span}
 use Rattle.format.specs.declared.Block.{Block}
+use Rattle.format.specs.declared.Counts.{Counts}
 use Rattle.format.specs.declared.Answer.{Answer}
 
 abbrev pub wordOf : Word → Spec.Word
@@ -37,6 +38,9 @@ spanOf s = record { lower = s .lower; upper = s .upper; list = listOf (s .list) 
 
 unfoldable pub blockOf : Block → Spec.Block
 blockOf b = record { words = map wordOf (take (b .words) (b .word)); tempos = map tempoOf (take (b .tempos) (b .tempo)); anchors = map anchorOf (take (b .anchors) (b .anchor)); spans = map spanOf (take (b .spans) (b .span)); cap = b .cap }
+
+abbrev pub countsOf : Block → Counts
+countsOf b = record { words = b .words; tempos = b .tempos; anchors = b .anchors; spans = b .spans }
 
 abbrev pub readOf : Answer → Outcome
 readOf a = outcome (a .verdict) (blockOf (a .block))
