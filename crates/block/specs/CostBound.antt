@@ -12,9 +12,9 @@ use Rattle.ints.specs.Diff.{diff, ring, split, maxℤ, ≤-or}
 use Rattle.ints.specs.Order.{*-assoc, *-swap, one-*, ≤-trans, ≤-plus, ≤-times, ≤-scale, nonneg-square, nonneg-times}
 use Rattle.ints.specs.Sum.{Σ, at, Σ-ext, Σ-le, Σ-plus, Σ-minus, Σ-times, Σ-by, Σ-swap, Σ-at, at-times}
 use Rattle.block.specs.Block.{Block, Item, word, tempo, anchor, span, item}
-use Rattle.block.specs.Plan.{time, size, square, sumOf, move, moves, bend, squareOf, cost}
+use Rattle.block.specs.Plan.{time, size, square, sumOf, move, moves, bend, squareOf, squares, bends, cost}
 use Rattle.block.specs.Keeps.{Keeps}
-use Rattle.block.specs.Gap.{Prices, price, coefOf, slopeOf, g, anchorPart, spanPart, h, leastAt, own, words, values, ends, gap}
+use Rattle.block.specs.Gap.{Prices, price, coefOf, slopeOf, g, anchorPart, spanPart, h, line, candidates, least, ownPart, own, words, values, ends, gap}
 use Rattle.block.specs.Ranges.{Ranged}
 use Rattle.block.specs.Least.{falls, least-over}
 use Rattle.block.specs.Finer.{moveOver, movesOver, bendOver, squareOver, costOver, KeepsOver}
@@ -138,6 +138,10 @@ module _ (d : ℕ) (b : Block) (num : Numbered b) (x y : List ℤ) (p : Prices) 
   k : ℕ → ℤ
   k i = bendOver d (word b i) (time y i)
 
+  -- the least of word i
+  leastAt : ℕ → ℤ
+  leastAt i = least (line (word b i) (h b x p i) (p .cap)) (candidates (word b i))
+
   -- g × time, over the words
   G : ℤ
   G = Σ n (λ i. g b x i *ℤ time y i)
@@ -145,20 +149,20 @@ module _ (d : ℕ) (b : Block) (num : Numbered b) (x y : List ℤ) (p : Prices) 
   G₀ : ℤ
   G₀ = Σ n (λ i. g b x i *ℤ time x i)
 
-  squares : slide (pos d) (Σ (length (b .tempos)) sq₀) G G₀ ≤ℤ Σ (length (b .tempos)) sq
+  sliding : slide (pos d) (Σ (length (b .tempos)) sq₀) G G₀ ≤ℤ Σ (length (b .tempos)) sq
   unfolding g slopeOf squareOf squareOver sq₀ sq r G G₀
-  squares =
+  sliding =
       subst₂ (λ u v. slide (pos d) (Σ (length (b .tempos)) sq₀) u v ≤ℤ Σ (length (b .tempos)) sq)
       (sym (lists n (length (b .tempos)) r (λ j. tempo b j .list) y (num .tempos)))
       (sym (lists n (length (b .tempos)) r (λ j. tempo b j .list) x (num .tempos)))
       (slide-sum d (length (b .tempos)) sq₀ (λ j. r j *ℤ sumOf (tempo b j .list) y) (λ j. r j *ℤ sumOf (tempo b j .list) x) sq
       (λ j l. term (tempo b j .weight) d (sumOf (tempo b j .list) x) (tempo b j .target) (sumOf (tempo b j .list) y)))
 
-  by-words : (pos d *ℤ Σ n (leastAt b x p)) ≤ℤ (G +ℤ Σ n (λ i. anchorPart b (p .anchors) i *ℤ time y i) +ℤ Σ n (λ i. spanPart b (p .spans) i *ℤ time y i) +ℤ Σ n k +ℤ pos (p .cap) *ℤ movesOver d b y)
+  by-words : (pos d *ℤ Σ n leastAt) ≤ℤ (G +ℤ Σ n (λ i. anchorPart b (p .anchors) i *ℤ time y i) +ℤ Σ n (λ i. spanPart b (p .spans) i *ℤ time y i) +ℤ Σ n k +ℤ pos (p .cap) *ℤ movesOver d b y)
   unfolding leastAt k h bendOver movesOver G
   by-words =
-      word-sum d (p .cap) n (leastAt b x p) (λ i. g b x i *ℤ time y i) (λ i. anchorPart b (p .anchors) i *ℤ time y i) (λ i. spanPart b (p .spans) i *ℤ time y i) k (λ i. moveOver d (word b i) (time y i))
-      (λ i l. subst (λ z. (pos d *ℤ leastAt b x p i) ≤ℤ z)
+      word-sum d (p .cap) n leastAt (λ i. g b x i *ℤ time y i) (λ i. anchorPart b (p .anchors) i *ℤ time y i) (λ i. spanPart b (p .spans) i *ℤ time y i) k (λ i. moveOver d (word b i) (time y i))
+      (λ i l. subst (λ z. (pos d *ℤ leastAt i) ≤ℤ z)
       (open-up (g b x i) (anchorPart b (p .anchors) i) (spanPart b (p .spans) i) (time y i) (pos (word b i .slope)) (pos (p .cap)) (moveOver d (word b i) (time y i)))
       (least-over d (word b i) (h b x p i) (p .cap) (time y i) (keeps .windows i l .0) (keeps .windows i l .1)))
 
@@ -177,19 +181,19 @@ module _ (d : ℕ) (b : Block) (num : Numbered b) (x y : List ℤ) (p : Prices) 
       (Σ-times (pos d) (length (b .spans)) (λ k. maxℤ (price (p .spans) k *ℤ span b k .lower) (price (p .spans) k *ℤ span b k .upper)))
       (Σ-le (length (b .spans)) _ _ (λ k l. span-le d (price (p .spans) k) (sumOf (span b k .list) y) (span b k .lower) (span b k .upper) (keeps .spans k l .0) (keeps .spans k l .1)))
 
-  words-is : words b x p ≡ G₀ +ℤ Σ n k₀ -ℤ Σ n (leastAt b x p)
-  unfolding words own k₀ G₀
-  words-is = Σ-minus n (λ i. g b x i *ℤ time x i +ℤ k₀ i) (leastAt b x p) ∙ ap (λ z. z -ℤ Σ n (leastAt b x p)) (Σ-plus n (λ i. g b x i *ℤ time x i) k₀)
+  words-is : words b x p ≡ G₀ +ℤ Σ n k₀ -ℤ Σ n leastAt
+  unfolding words own ownPart leastAt k₀ G₀
+  words-is = Σ-minus n (λ i. g b x i *ℤ time x i +ℤ k₀ i) leastAt ∙ ap (λ z. z -ℤ Σ n leastAt) (Σ-plus n (λ i. g b x i *ℤ time x i) k₀)
 
   -- d² cost x ≤ cost y (times d²) + d² gap
   bound-over : (pos d *ℤ (pos d *ℤ cost b x)) ≤ℤ (costOver d b y +ℤ pos d *ℤ (pos d *ℤ gap b x p))
-  unfolding cost costOver gap sq₀ sq k₀ k
+  unfolding cost squares bends costOver gap sq₀ sq k₀ k
   bound-over =
       rw words-is
-      (join d (Σ (length (b .tempos)) sq₀) (Σ (length (b .tempos)) sq) G G₀ (Σ n k) (Σ n k₀) (Σ n (leastAt b x p)) (values b (p .anchors)) (ends b (p .spans)) (pos (p .cap) *ℤ pos (b .cap))
-      squares
+      (join d (Σ (length (b .tempos)) sq₀) (Σ (length (b .tempos)) sq) G G₀ (Σ n k) (Σ n k₀) (Σ n leastAt) (values b (p .anchors)) (ends b (p .spans)) (pos (p .cap) *ℤ pos (b .cap))
+      sliding
       (nonneg-times d _
-      (rest d (p .cap) G (Σ n k) (Σ n (leastAt b x p)) (Σ n (λ i. anchorPart b (p .anchors) i *ℤ time y i)) (Σ n (λ i. spanPart b (p .spans) i *ℤ time y i)) (movesOver d b y) (values b (p .anchors)) (ends b (p .spans)) (pos (b .cap))
+      (rest d (p .cap) G (Σ n k) (Σ n leastAt) (Σ n (λ i. anchorPart b (p .anchors) i *ℤ time y i)) (Σ n (λ i. spanPart b (p .spans) i *ℤ time y i)) (movesOver d b y) (values b (p .anchors)) (ends b (p .spans)) (pos (b .cap))
       by-words at-anchors at-spans (≤-scale (p .cap) (movesOver d b y) (pos d *ℤ pos (b .cap)) (keeps .cap)))))
 
 -- ---- whole-sample plans: d is 1
@@ -199,7 +203,7 @@ module _ (b : Block) (y : List ℤ) where
   move-one i = ap (λ z. size (time y i -ℤ z)) (one-* (pos (word b i .key)))
 
   cost-one : costOver 1 b y ≡ cost b y
-  unfolding cost costOver squareOf squareOver bend bendOver
+  unfolding cost squares bends costOver squareOf squareOver bend bendOver
   cost-one = ap₂ _+ℤ_
       (Σ-ext (length (b .tempos)) _ _ (λ j l. ap (λ z. pos (tempo b j .weight) *ℤ square (sumOf (tempo b j .list) y -ℤ z)) (one-* (tempo b j .target))))
       (one-* _ ∙ ap (λ z. pos 2 *ℤ z) (Σ-ext (length (b .words)) _ _ (λ i l. ap (λ z. pos (word b i .slope) *ℤ z) (move-one i))))

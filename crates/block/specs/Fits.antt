@@ -19,7 +19,7 @@ use Rattle.ints.specs.SumNat.{Σℕ, Σ-under, Σℕ-le, Σℕ-part, Σℕ-plus
 use Rattle.block.specs.Block.{Block, Word, Item, Tempo, Anchor, Span, word, tempo, anchor, span, item}
 use Rattle.block.specs.Plan.{time, size, product, sumOf, move, moves, bend, squareOf, cost}
 use Rattle.block.specs.Keeps.{anchorMiss, outside, spanMiss, coefSize, coefSizes}
-use Rattle.block.specs.Gap.{Prices, price, coefAt, coefOf, slopeOf, g, anchorPart, spanPart, h, line, candidates, least, leastAt, own, words, values, ends, gap}
+use Rattle.block.specs.Gap.{Prices, price, coefAt, coefOf, slopeOf, g, anchorPart, spanPart, h, line, candidates, least, ownPart, own, words, values, ends, gap}
 use Rattle.block.specs.Least.{least-b, candidates-b}
 use Rattle.block.specs.Ranges.{Short, RangedList, RangedWord, RangedTempo, RangedAnchor, RangedSpan, Ranged, Timed, Priced}
 
@@ -258,7 +258,7 @@ module _ {b : Block} (B : Ranged b) {p : Prices} (P : Priced p) where
     owns i = gs i * 262144 + 34359214080 + (hs i * 262144 + 4295032831 * 524288)
 
     own-owns : (i : ℕ) → i < length (b .words) → own b x p i ≼ owns i
-    unfolding own leastAt owns
+    unfolding own ownPart owns
     own-owns i l =
         g-gs i *b at-time B X i l +b bend-b (B .each-word i l) (at-time B X i l)
         -b least-line-b (B .each-word i l) (h b x p i) (p .cap) (h-hs i) (P .cap)

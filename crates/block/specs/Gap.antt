@@ -8,7 +8,7 @@ use Rattle.folds.specs.Fold.{both, pick}
 use Rattle.ints.specs.Diff.{minℤ, maxℤ}
 use Rattle.ints.specs.Sum.{Σ, at}
 use Rattle.block.specs.Block.{Block, Word, Item, Tempo, word, tempo, anchor, span, item}
-use Rattle.block.specs.Plan.{time, sumOf, move, bend}
+use Rattle.block.specs.Plan.{time, off, move, bend}
 
 -- "prices: anchors, spans, cap"
 pub record Prices : Type 0 where
@@ -28,7 +28,7 @@ coefOf i l = Σ (length l) (coefAt i l)
 
 -- "weight × (sum − target) × coefficient"
 unfoldable pub slopeOf : Tempo → List ℤ → ℕ → ℤ
-slopeOf t x i = pos (t .weight) *ℤ (sumOf (t .list) x -ℤ t .target) *ℤ coefOf i (t .list)
+slopeOf t x i = pos (t .weight) *ℤ off t x *ℤ coefOf i (t .list)
 
 -- "For each word let g be half the slope of the square part (weight × (sum − target) × coefficient, added up)"
 unfoldable pub g : Block → List ℤ → ℕ → ℤ
@@ -61,12 +61,12 @@ unfoldable pub least : (ℤ → ℤ) → List ℤ → ℤ
 least f [] = pos 0
 least f (t ∷ ts) = leastFrom (f t) f ts
 
-unfoldable pub leastAt : Block → List ℤ → Prices → ℕ → ℤ
-leastAt b x p i = least (line (word b i) (h b x p i) (p .cap)) (candidates (word b i))
+-- "g × time + slope × |time − key| − the least", of word w with its g, its h, the cap's price r and its time t
+unfoldable pub ownPart : Word → ℤ → ℤ → ℕ → ℤ → ℤ
+ownPart w s u r t = s *ℤ t +ℤ bend w t -ℤ least (line w u r) (candidates w)
 
--- "g × time + slope × |time − key| − the least"
 unfoldable pub own : Block → List ℤ → Prices → ℕ → ℤ
-own b x p i = g b x i *ℤ time x i +ℤ bend (word b i) (time x i) -ℤ leastAt b x p i
+own b x p i = ownPart (word b i) (g b x i) (h b x p i) (p .cap) (time x i)
 
 -- "Gap = 2 × the words' sum of [..], plus 2 × each anchor price × value, plus 2 × the larger of price × lower and price × upper for each span, plus
 -- 2 × cap price × cap."

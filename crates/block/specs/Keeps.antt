@@ -48,12 +48,17 @@ missBounded miss l = leZ (pos 2 *ℤ miss) (coefSizes l)
 unfoldable pub movesBounded : Block → List ℤ → Bool
 movesBounded b x = leZ (pos 2 *ℤ (moves b x -ℤ pos (b .cap))) (pos (length (b .words)))
 
+unfoldable pub windowsKept : Block → List ℤ → Bool
+windowsKept b x = all (length (b .words)) (λ i. windowKept (word b i) (time x i))
+
+unfoldable pub anchorsBounded : Block → List ℤ → Bool
+anchorsBounded b x = all (length (b .anchors)) (λ k. missBounded (anchorMiss (anchor b k) x) (anchor b k .list))
+
+unfoldable pub spansBounded : Block → List ℤ → Bool
+spansBounded b x = all (length (b .spans)) (λ k. missBounded (spanMiss (span b k) x) (span b k .list))
+
 unfoldable pub bounded : Block → List ℤ → Bool
-bounded b x =
-    both (all (length (b .words)) (λ i. windowKept (word b i) (time x i)))
-    (both (movesBounded b x)
-    (both (all (length (b .anchors)) (λ k. missBounded (anchorMiss (anchor b k) x) (anchor b k .list)))
-    (all (length (b .spans)) (λ k. missBounded (spanMiss (span b k) x) (span b k .list)))))
+bounded b x = both (windowsKept b x) (both (movesBounded b x) (both (anchorsBounded b x) (spansBounded b x)))
 
 -- the same as facts
 pub record Bounded (b : Block) (x : List ℤ) : Type 0 where
@@ -63,7 +68,7 @@ pub record Bounded (b : Block) (x : List ℤ) : Type 0 where
   pub spans : (k : ℕ) → k < length (b .spans) → (pos 2 *ℤ spanMiss (span b k) x) ≤ℤ coefSizes (span b k .list)
 
 pub bounded-true : (b : Block) (x : List ℤ) → bounded b x ≡ true → Bounded b x
-unfolding bounded windowKept movesBounded missBounded
+unfolding bounded windowsKept windowKept movesBounded anchorsBounded spansBounded missBounded
 bounded-true b x e =
     let p = both-true _ _ e in
     let q = both-true _ _ (p .1) in

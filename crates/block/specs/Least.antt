@@ -177,3 +177,20 @@ candidates-b w {a} p q r t m = ⊎-elim (λ e. small p e) (λ n. ⊎-elim (λ e.
     inner : (b : Bool) → List·Memᴰ t (pick b (pos (w .key) ∷ []) []) → t ≼ a
     inner true o = ⊎-elim (λ e. small r e) (λ n. absurd (List·Memᴰ·not-nil n)) (List·Memᴰ·cases-cons o)
     inner false o = absurd (List·Memᴰ·not-nil o)
+
+-- ---- by the tests of the key
+module _ (f : ℤ → ℤ) (w : Word) where
+  abbrev at-ends : ℤ
+  at-ends = minℤ (f (pos (w .lower))) (f (pos (w .upper)))
+
+  pub least-inside : leb (w .lower) (w .key) ≡ true → leb (w .key) (w .upper) ≡ true → least f (candidates w) ≡ minℤ at-ends (f (pos (w .key)))
+  unfolding least leastFrom candidates both pick
+  least-inside e g = rw (e, g)
+
+  pub least-before : leb (w .lower) (w .key) ≡ false → least f (candidates w) ≡ at-ends
+  unfolding least leastFrom candidates both pick
+  least-before e = rw e
+
+  pub least-after : leb (w .lower) (w .key) ≡ true → leb (w .key) (w .upper) ≡ false → least f (candidates w) ≡ at-ends
+  unfolding least leastFrom candidates both pick
+  least-after e g = rw (e, g)

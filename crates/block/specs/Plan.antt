@@ -36,12 +36,20 @@ moves b x = Σ (length (b .words)) (λ i. move (word b i) (time x i))
 unfoldable pub bend : Word → ℤ → ℤ
 bend w t = pos (w .slope) *ℤ move w t
 
+-- "sum − target"
+abbrev pub off : Tempo → List ℤ → ℤ
+off t x = sumOf (t .list) x -ℤ t .target
+
 -- "each weight × (sum − target)²"
 unfoldable pub squareOf : Tempo → List ℤ → ℤ
-squareOf t x = pos (t .weight) *ℤ square (sumOf (t .list) x -ℤ t .target)
+squareOf t x = pos (t .weight) *ℤ square (off t x)
 
 -- "A plan's cost: each weight × (sum − target)², plus 2 × slope × |time − key|."
+unfoldable pub squares : Block → List ℤ → ℤ
+squares b x = Σ (length (b .tempos)) (λ j. squareOf (tempo b j) x)
+
+unfoldable pub bends : Block → List ℤ → ℤ
+bends b x = Σ (length (b .words)) (λ i. bend (word b i) (time x i))
+
 unfoldable pub cost : Block → List ℤ → ℤ
-cost b x =
-    Σ (length (b .tempos)) (λ j. squareOf (tempo b j) x)
-    +ℤ pos 2 *ℤ Σ (length (b .words)) (λ i. bend (word b i) (time x i))
+cost b x = squares b x +ℤ pos 2 *ℤ bends b x
