@@ -1,12 +1,19 @@
 -- The part of a list from b to e - 1: what a call that is lent `&l[b..e]` reads, and what one that is lent `&mut l[b..e]` makes of the whole.
-use Prim.Native.Nat.{ℕ, _-_}
+use mathlib.Core.Path.{_≡_}
+use Prim.Native.Nat.{ℕ, _-_, _≤_}
+use native.Mathlib.Omega.{arith}
 use mathlib.Core.List.{List, _++_}
-use lib.ListN.{take, drop}
+use lib.ListN.{length, take, drop, length-drop}
+use lib.Seq.{length-take-le}
 use Rattle.folds.specs.Fold.{Out, out}
 
 module _ {A : Type 0} where
   unfoldable pub part : ℕ → ℕ → List A → List A
   part b e l = take (e - b) (drop b l)
+
+  pub length-part : (b e : ℕ) (l : List A) → e ≤ length l → length (part b e l) ≡ e - b
+  unfolding part
+  length-part b e l h = length-take-le (e - b) (drop b l) (simp length-drop (omega arith))
 
   -- l with p in place of that part
   unfoldable pub withPart : ℕ → ℕ → List A → List A → List A

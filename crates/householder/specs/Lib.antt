@@ -1,0 +1,2 @@
+pub mod Householder
+pub mod Known

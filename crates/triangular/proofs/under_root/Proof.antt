@@ -1,0 +1,13 @@
+use Rattle.folds.specs.Kit.{kit}
+use Rattle.triangular.specs.Triangular.{underRoot}
+use Rattle.triangular.proofs.under_root.Statement.{statement}
+use Rattle.triangular.proofs.under_root.Tie as tie
+
+pub under-root-spec : {M : Type 1} → statement M
+unfolding underRoot
+under-root-spec =
+    tie.close
+    (tie.spec
+    (λ c κs. search kit)  -- get-requires
+    (λ c κs. search kit)  -- rows-requires
+    (λ c. cc))  -- returns
