@@ -1,5 +1,5 @@
 -- A list that a loop fills by index is the list made by index.
-use mathlib.Core.Path.{_≡_, refl, sym, ap, _∙_}
+use mathlib.Core.Path.{_≡_, refl, sym, _∙_}
 use mathlib.Core.List.{List, [], _∷_, _++_, append-nil, append-assoc}
 use Prim.Native.Nat.{ℕ, zero, suc, _+_, _-_, _*_, _<_, _≤_}
 use mathlib.Core.Logic.{⊎-elim}
@@ -136,5 +136,5 @@ module _ {A : Type 0} where
       let m : length (take n (drop b l)) ≡ n = length-take-le n (drop b l) (simp length-drop (omega arith)) in
       ext-getD d (take n (drop b l)) (tab n g) (m ∙ sym (length-tab n g))
       (λ i k. let j : i < n = omega arith in
-          let z : b + i ≡ i + b = omega arith in
-          rw (getD-take n (drop b l) i d j, getD-drop b l i d, z, getD-tab d n i g j))
+      let z : b + i ≡ i + b = omega arith in
+      rw (getD-take n (drop b l) i d j, getD-drop b l i d, z, getD-tab d n i g j))

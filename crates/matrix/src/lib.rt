@@ -208,7 +208,15 @@ pub fn identity(a: &mut [f64], n: usize)
     }
 }
 
-fn select_rows_column(a: &[f64], n: usize, m: usize, list: &[usize], k: usize, j: usize, b: &mut [f64])
+fn select_rows_column(
+    a: &[f64],
+    n: usize,
+    m: usize,
+    list: &[usize],
+    k: usize,
+    j: usize,
+    b: &mut [f64],
+)
     requires { ⌜ (n * m ≤ length (now a)) × (k ≤ length (now list)) × Below k (now list) n × (k * m ≤ length (now b)) × (j < m) ⌝ }
     ensures { λ _. ⌜ now (b .exit) ≡ Matrix.putColumn k k j (λ i. Matrix.cell (now (a .entry)) n (Matrix.index (now (list .entry)) i) j) (now (b .entry)) ⌝ }
 {

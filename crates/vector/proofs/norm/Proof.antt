@@ -6,8 +6,8 @@ use Rattle.vector.proofs.norm.Tie as tie
 pub norm-spec : {M : Type 1} → statement M
 unfolding norm
 norm-spec =
-  tie.close
-  (tie.spec
-  (λ c κs. search needs) -- sum-squares-requires
-  (λ c κs. search needs) -- sqrt-requires
-  (λ c. rw (c .sqrt .ensures, c .before .sum-squares .ensures))) -- returns
+    tie.close
+    (tie.spec
+    (λ c κs. search needs)  -- sum-squares-requires
+    (λ c κs. search needs)  -- sqrt-requires
+    (λ c. rw (c .sqrt .ensures, c .before .sum-squares .ensures)))  -- returns
