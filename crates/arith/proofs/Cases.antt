@@ -1,7 +1,7 @@
 -- The tests of the scalars, value by value.
-use mathlib.Core.Path.{_≡_, refl, sym, ap, subst, _∙_}
+use mathlib.Core.Path.{_≡_, refl, sym}
 use mathlib.Core.Bool.{Bool, true, false, not, cond, true≢false}
-use Prim.Native.Nat.{ℕ, zero, suc, _+_, _*_, _/_, _%_, _^_}
+use Prim.Native.Nat.{ℕ, zero, suc, _+_, _*_, _/_, _%_}
 use lib.Dec.{T, leb, eqb, eqb-refl}
 use lib.Ieee.{Float, nan, inf, fin, Format, binary64, prec, low, hid, ones, top, up, down, odd, ofFields, ofBits, toBits, fits, isNan, neg, lt, eq, ne, div}
 use lib.Ieee.Bits.{is-true, ofBits-toBits}

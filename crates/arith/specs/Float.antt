@@ -1,6 +1,6 @@
 -- Short names for what `lib.Ieee` says of f64: Rust's operators, the numbers that the source writes, an element of a list, a sum.
 use Prim.Native.Nat.{ℕ}
-use mathlib.Core.Bool.{Bool, false}
+use mathlib.Core.Bool.{false}
 use mathlib.Core.List.{List}
 use lib.IntN.{pos}
 use lib.ListN.{getD}

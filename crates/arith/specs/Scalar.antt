@@ -1,8 +1,6 @@
 -- What Rust has as methods of f64, each by what it gives. There is one NaN, with no sign.
 use mathlib.Core.Bool.{Bool, true, false, not}
-use Prim.Native.Nat.{ℕ}
-use lib.IntN.{ℤ}
-use lib.Ieee.{Float, nan, inf, fin, binary64, isNan, lt, eq}
+use lib.Ieee.{Float, nan, inf, fin, isNan, lt, eq}
 use Rattle.folds.specs.Fold.{pick, both}
 use Rattle.arith.specs.Float.{f1, fneg}
 

@@ -1,12 +1,12 @@
 -- The loop over the sweeps: what is left of it after i of them.
-use mathlib.Core.Path.{_≡_, refl, sym, _∙_}
+use mathlib.Core.Path.{_≡_, refl, _∙_}
 use mathlib.Core.Bool.{Bool, true, false}
 use mathlib.Core.List.{List}
 use Prim.Native.Nat.{ℕ, _+_, _-_, _<_, _≤_}
 use lib.Ieee.{Float, isNan, le}
 use Rattle.folds.specs.Fold.{Out, out, pick}
 use Rattle.folds.specs.Part.{two}
-use Rattle.folds.specs.Run.{run, more, done, run-more, run-done, run-spent}
+use Rattle.folds.specs.Run.{run, more, run-more, run-done, run-spent}
 use Rattle.arith.specs.Float.{fmul, f2, sqrt}
 use Rattle.eigen.specs.Eigen.{State, pass, sweep, offDiagonal, sweeps}
 

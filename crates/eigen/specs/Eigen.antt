@@ -1,6 +1,6 @@
 -- eigen.rs: the symmetric eigendecomposition by the cyclic Jacobi method, from the identity.
 use Prim.Native.Nat.{ℕ, _+_, _*_}
-use mathlib.Core.Bool.{Bool, true, false, not}
+use mathlib.Core.Bool.{true, false, not}
 use mathlib.Core.List.{List}
 use lib.Ieee.{Float, binary64, eq, lt, le, isNan, ofBits}
 use Rattle.folds.specs.Fold.{fold, span, pick, tab, tabM, over, Out, out}

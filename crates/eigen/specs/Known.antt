@@ -1,6 +1,6 @@
 -- Known values, computed.
 use mathlib.Core.Path.{_≡_, refl}
-use mathlib.Core.List.{List, [], _∷_}
+use mathlib.Core.List.{[], _∷_}
 use lib.Ieee.{Float, binary64, neg, add, sub, mul, div, eq, lt, le, isNan, ofInt, ofBits}
 use Rattle.folds.specs.Fold.{fold, span, pick, all, tab, tabM}
 use Rattle.folds.specs.Run.{run}

@@ -39,7 +39,8 @@ fn angle(a: &[f64], n: usize, p: usize, q: usize) -> Turn
     requires { ⌜ (n * n ≤ length (now a)) × (p < n) × (q < n) ⌝ }
     ensures { λ r. ⌜ r ≡ Eigen.angle n p q (now (a .entry)) ⌝ }
 {
-    let tau = (matrix::get(a, n, n, q, q) - matrix::get(a, n, n, p, p)) / (2.0 * matrix::get(a, n, n, p, q));
+    let tau = (matrix::get(a, n, n, q, q) - matrix::get(a, n, n, p, p))
+        / (2.0 * matrix::get(a, n, n, p, q));
     turn_by(tangent(tau))
 }
 
@@ -207,7 +208,16 @@ fn eigenvalues(a: &[f64], n: usize, scale: f64, values: &mut [f64])
 }
 
 // The decomposition in work memory r, b and v, then written out.
-fn jacobi(a: &[f64], n: usize, scale: f64, r: &mut [f64], b: &mut [f64], v: &mut [f64], values: &mut [f64], vectors: &mut [f64]) -> bool
+fn jacobi(
+    a: &[f64],
+    n: usize,
+    scale: f64,
+    r: &mut [f64],
+    b: &mut [f64],
+    v: &mut [f64],
+    values: &mut [f64],
+    vectors: &mut [f64],
+) -> bool
     requires { ⌜ (n ≤ 32) × (n * n ≤ length (now a)) × (length (now r) ≡ n * n) × (length (now b) ≡ n * n) × (length (now v) ≡ n * n) × (n ≤ length (now values)) × (n * n ≤ length (now vectors)) ⌝ }
     ensures { λ ok. ⌜ out ok (two (now (values .exit)) (now (vectors .exit))) ≡ Eigen.written (Eigen.jacobi n (now (a .entry)) scale) (now (values .entry)) (now (vectors .entry)) ⌝ }
 {
@@ -241,7 +251,16 @@ pub fn symmetric_eigen(a: &[f64], n: usize, values: &mut [f64], vectors: &mut [f
     let mut r = [0.0; 1024];
     let mut b = [0.0; 1024];
     let mut v = [0.0; 1024];
-    jacobi(a, n, scale, &mut r[..count], &mut b[..count], &mut v[..count], values, vectors)
+    jacobi(
+        a,
+        n,
+        scale,
+        &mut r[..count],
+        &mut b[..count],
+        &mut v[..count],
+        values,
+        vectors,
+    )
 }
 
 // `split`: the numbers of the eigenvalues above the cutoff, in order, and how many.

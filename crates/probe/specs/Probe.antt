@@ -10,6 +10,7 @@ use borrow.Author.Tests.{leb-true}
 use Rattle.folds.specs.Fold.{pick, both, both-true, Out, out}
 use Rattle.folds.specs.Part.{Two, two}
 use Rattle.vector.specs.Vector as Vector
+use Rattle.triangular.specs.Triangular as Triangular
 use Rattle.eigen.specs.Eigen.{symmetricEigen, written}
 
 -- NaN where b is the shorter
@@ -23,8 +24,12 @@ room n a values vectors = both (leb n 32) (both (leb (n * n) a) (both (leb n val
 unfoldable pub eigen : ℕ → List Float → List Float → List Float → Out (Two (List Float) (List Float))
 eigen n a o p = pick (room n (length a) (length o) (length p)) (written (symmetricEigen n a) o p) (out false (two o p))
 
+-- the factor of a symmetric matrix of at most 48 rows
+unfoldable pub cholesky : ℕ → List Float → Out (List Float)
+cholesky n a = pick (leb n 48) (pick (leb (n * n) (length a)) (Triangular.cholesky n a) (out false a)) (out false a)
+
 -- a hook's answer, 1 or 0, beside the lists
-abbrev pub hook : ℕ → Two (List Float) (List Float) → Out (Two (List Float) (List Float))
+abbrev pub hook : {A : Type 0} → ℕ → A → Out A
 hook r l = out (eqb r 1) l
 
 pub record Room (n a values vectors : ℕ) : Type 0 where

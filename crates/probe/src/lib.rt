@@ -22,6 +22,23 @@ pub extern "C" fn probe_dot(a: &[f64], b: &[f64]) -> f64
     arith::nan()
 }
 
+// 1 where a is factored.
+#[no_mangle]
+pub extern "C" fn probe_cholesky(a: &mut [f64], n: usize) -> u32
+    ensures { λ r. ⌜ Probe.hook r (now (a .exit)) ≡ Probe.cholesky n (now (a .entry)) ⌝ }
+{
+    if n > 48 {
+        return 0;
+    }
+    if n * n > a.len() {
+        return 0;
+    }
+    if triangular::cholesky(a, n) {
+        return 1;
+    }
+    0
+}
+
 fn room(n: usize, a: usize, values: usize, vectors: usize) -> bool
     ensures { λ r. ⌜ r ≡ Probe.room n a values vectors ⌝ }
 {

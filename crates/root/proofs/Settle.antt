@@ -2,10 +2,10 @@
 use mathlib.Core.Path.{_≡_, sym, ap, _∙_, subst}
 use mathlib.Core.Bool.{Bool, not}
 use Prim.Native.Nat.{ℕ, zero, suc, _+_, _-_, _*_, _/_, _%_, _^_, _≤_, _<_}
-use native.Mathlib.Nat.{le-trans, lt-of-le-of-lt, lt-of-lt-of-le, le-of-lt, mul-assoc, mul-comm, mul-right-comm, mul-mul-mul-comm, mul-add, add-mul, mod-le, mul-le-mul, mul-le-mul-right, div-le-self}
+use native.Mathlib.Nat.{le-trans, lt-of-le-of-lt, mul-assoc, mul-comm, mul-right-comm, mul-mul-mul-comm, mul-add, add-mul, mod-le, mul-le-mul, mul-le-mul-right, div-le-self}
 use native.Mathlib.Numerals.{add-one}
 use native.Mathlib.Omega.{arith}
-use lib.Dec.{T, lit<, lit≤}
+use lib.Dec.{T, lit<}
 use lib.Ieee.{binary64, nanBits}
 use lib.Ieee.Bits.{nanBits-above}
 use borrow.Author.Tests.{le-ltb}

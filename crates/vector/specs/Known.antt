@@ -1,8 +1,8 @@
 -- Known values, computed.
 use mathlib.Core.Path.{_≡_, refl}
-use mathlib.Core.List.{List, [], _∷_}
-use lib.Ieee.{Float, nan, neg, add, mul, div, eq, lt, isNan, ofInt, ofBits}
-use Rattle.folds.specs.Fold.{fold, pick, some, tab}
+use mathlib.Core.List.{[], _∷_}
+use lib.Ieee.{nan, neg, add, mul, div, eq, lt, isNan, ofInt, ofBits}
+use Rattle.folds.specs.Fold.{fold, pick, some}
 use Rattle.root.specs.Root.{root}
 use Rattle.arith.specs.Float.{fromℕ}
 use Rattle.arith.specs.Scalar.{abs, max, isInfinite}

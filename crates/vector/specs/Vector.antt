@@ -1,6 +1,6 @@
 -- Vectors: a list and how many of its elements count. Every sum starts at +0 and adds in rising order.
 use Prim.Native.Nat.{ℕ, _<_}
-use mathlib.Core.Bool.{Bool, true, false}
+use mathlib.Core.Bool.{Bool}
 use mathlib.Core.List.{List}
 use lib.ListN.{getD}
 use lib.Ieee.{Float, nan, isNan, eq}

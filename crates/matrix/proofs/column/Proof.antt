@@ -1,4 +1,4 @@
-use Rattle.folds.specs.Kit.{_+_, _*_, _≤_, _-_, _≡_, arith, length, needs, col-end, part-tab}
+use Rattle.folds.specs.Kit.{_+_, _*_, _≤_, _-_, _≡_, arith, length, col-end, part-tab}
 use lib.Ieee.{nan}
 use Rattle.matrix.specs.Matrix.{column}
 use Rattle.matrix.proofs.column.Statement.{statement}

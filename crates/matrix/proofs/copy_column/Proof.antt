@@ -1,4 +1,4 @@
-use Rattle.folds.specs.Kit.{_≡_, _-_, _≤_, arith, length, fold, fold-call, kit}
+use Rattle.folds.specs.Kit.{_≡_, _-_, _≤_, arith, length, fold-call, kit}
 use Rattle.matrix.specs.Matrix.{cell, putColumn}
 use Rattle.matrix.proofs.copy_column.Statement.{statement}
 use Rattle.matrix.proofs.copy_column.Tie as tie

@@ -67,5 +67,5 @@ returns-5 c = search needs
 
 pub nearest-spec : {M : Type 1} → statement M
 nearest-spec =
-  tie.close
-  (tie.spec mul-if1 rounded-requires returns mul-d sub-d rounded-requires-2 returns-2 mul-t add-t mul-u mul-u-2 rounded-requires-3 returns-3 rounded-requires-4 returns-4 mul-settled mul-settled-2 add-settled settled-requires returns-5)
+    tie.close
+    (tie.spec mul-if1 rounded-requires returns mul-d sub-d rounded-requires-2 returns-2 mul-t add-t mul-u mul-u-2 rounded-requires-3 returns-3 rounded-requires-4 returns-4 mul-settled mul-settled-2 add-settled settled-requires returns-5)

@@ -11,7 +11,7 @@ digits-requires c κs = search needs
 
 add-result : tie.Need-add-result
 add-result c =
-  let h : c .digits .result < 2 ^ 54 = rw (c .digits .ensures) (root-fits (c .before .args .m) (c .before .pre .1)) in omega arith
+    let h : c .digits .result < 2 ^ 54 = rw (c .digits .ensures) (root-fits (c .before .args .m) (c .before .pre .1)) in omega arith
 
 returns : tie.Need-returns
 returns c = rw (c .digits .ensures)

@@ -58,5 +58,5 @@ returns-5 c = same _ _ _ _ (c .before .before .pre .6) (omega arith) (c .before 
 
 pub settled-spec : {M : Type 1} → statement M
 settled-spec =
-  tie.close
-  (tie.spec add-if1 mul-if2 add-if2 add-if2-2 add-result returns rounded-requires returns-2 add-if3 add-if4 mul-if4 add-if4-2 sub-result returns-3 rounded-requires-2 returns-4 returns-5)
+    tie.close
+    (tie.spec add-if1 mul-if2 add-if2 add-if2-2 add-result returns rounded-requires returns-2 add-if3 add-if4 mul-if4 add-if4-2 sub-result returns-3 rounded-requires-2 returns-4 returns-5)

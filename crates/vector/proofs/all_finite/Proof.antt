@@ -1,4 +1,4 @@
-use Rattle.folds.specs.Kit.{_≡_, true, false, _-_, _≤_, sym, _∙_, arith, needs, alls}
+use Rattle.folds.specs.Kit.{_≡_, true, _-_, _≤_, sym, _∙_, arith, needs, alls}
 use Rattle.folds.specs.Fold.{all-stop, all-turn}
 use borrow.Author.Tests.{not-true, not-false}
 use Rattle.vector.specs.Vector.{allFinite}

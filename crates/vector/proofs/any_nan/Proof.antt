@@ -1,4 +1,4 @@
-use Rattle.folds.specs.Kit.{_≡_, true, false, _-_, _≤_, sym, _∙_, arith, needs, somes}
+use Rattle.folds.specs.Kit.{_≡_, false, _-_, _≤_, sym, _∙_, arith, needs, somes}
 use Rattle.folds.specs.Fold.{some-stop, some-turn}
 use Rattle.vector.specs.Vector.{anyNan}
 use Rattle.vector.proofs.any_nan.Statement.{statement}
