@@ -1,2 +1,22 @@
 //! The reference build: a copy of the source's two Rust files over a small matrix module, and
 //! an independent block reader, service and check.
+
+pub mod answer;
+pub mod bench;
+pub mod block;
+pub mod cases;
+pub mod check;
+pub mod compare;
+mod eigen;
+pub mod engine;
+mod error;
+pub mod exact;
+pub mod kernels;
+mod matrix;
+mod qp;
+pub mod refusal;
+pub mod rng;
+pub mod service;
+mod slips;
+
+pub use error::CutupError;

@@ -12,18 +12,16 @@ use lib.Seq.{getD-at}
 use lib.IntN.{ℤ, pos, negsuc, negℤ, natAbs}
 use lib.Signed.{leZ}
 use borrow.Author.Tests.{leb-true, ltb-true}
-use Rattle.folds.specs.Fold.{Out, out, then, walk, pick, pick-true, both, both-true}
+use Rattle.folds.specs.Fold.{pick, pick-true, false-true, both-true}
 use Rattle.block.specs.Block.{Word, Item, Tempo, Anchor, Span, Block, item}
 use Rattle.block.specs.Ranges.{Short, RangedList, RangedWord, RangedTempo, RangedAnchor, RangedSpan, Ranged}
-use Rattle.format.specs.Read.{accepted, need, judged, verdict, byteAt, i8At, u16At, u32At, i32At, within, isZero, rises, pairVerdict, pairsVerdict, listVerdict, pairFrom, listFrom, wordVerdict, wordFrom, tempoVerdict, tempoFrom, anchorVerdict, anchorFrom, spanVerdict, spanFrom, capVerdict, pairsIn, count, countOf, tag, len, body, hasRoom, headVerdict, bodyVerdict, fieldVerdict, withWord, withTempo, withAnchor, withSpan, withCap, withBody, withField, counts, endVerdict, Outcome, block, refused, outcome, number, fields, empty, read, upTo, oneTo, maxTime, maxSlope, maxWeight, maxSum, maxCoef}
+use Rattle.format.specs.Read.{accepted, need, byteAt, i8At, u16At, u32At, i32At, within, isZero, rises, pairVerdict, listVerdict, pairFrom, listFrom, wordVerdict, wordFrom, tempoVerdict, tempoFrom, anchorVerdict, anchorFrom, spanVerdict, spanFrom, capVerdict, pairsIn, count, countOf, tag, len, body, hasRoom, headVerdict, bodyVerdict, fieldVerdict, withWord, withTempo, withAnchor, withSpan, withCap, withBody, withField, counts, endVerdict, Outcome, block, refused, outcome, number, fields, empty, read, upTo, oneTo, maxTime, maxSlope, maxWeight, maxSum, maxCoef}
+use Rattle.format.specs.Laws.{first-each}
 use Rattle.format.specs.Whole.{need-held, after-held, whole}
 use Rattle.format.specs.Structs.{blockOf, readOf}
 use Rattle.format.specs.declared.Answer.{Answer}
 use Rattle.format.specs.declared.Verdict.{Verdict}
-use Rattle.format.specs.declared.Verdict.the-variants.{Accepted, BadList, OutOfRange, CrossedBounds}
-
-no : false ≡ true → ⊥
-no e = let z : _≡_ {A = ℕ} 0 1 = cc in omega arith
+use Rattle.format.specs.declared.Verdict.the-variants.{BadList, OutOfRange}
 
 -- ---- numbers
 within-size : (most : ℕ) (z : ℤ) → within most z ≡ true → natAbs z ≤ most
@@ -32,35 +30,10 @@ within-size most z e = go most z (both-true _ _ e .0) (both-true _ _ e .1)
   where
     go : (m : ℕ) (z : ℤ) → leZ (negℤ (pos m)) z ≡ true → leZ z (pos m) ≡ true → natAbs z ≤ m
     go m (pos n) a b = leb-true n m b
-    go zero (negsuc n) a b = absurd (no a)
+    go zero (negsuc n) a b = absurd (false-true a)
     go (suc m) (negsuc n) a b = omega (arith, leb-true n m a)
 
 -- ---- a list
--- a walk that judges each index
-abbrev judging : (ℕ → Verdict) → ℕ → Verdict → Out Verdict
-judging f i v = judged (f i)
-
--- what it holds is accepted exactly where it goes on
-walk-holds : (f : ℕ → Verdict) (n : ℕ) (t : Bool) (v : Verdict) → walk n (judging f) Accepted ≡ out t v → accepted v ≡ t
-unfolding walk accepted
-walk-holds f zero t v e = cc
-walk-holds f (suc n) t v e = next (walk n (judging f) Accepted) (walk-holds f n) refl e
-  where
-    next : (o : Out Verdict) → ((t : Bool) (v : Verdict) → walk n (judging f) Accepted ≡ out t v → accepted v ≡ t) → walk n (judging f) Accepted ≡ o → then (judging f n) o ≡ out t v → accepted v ≡ t
-    next (out true u) h p q = cc
-    next (out false u) h p q = let z = h false u p in cc
-
--- where it ends accepted, each index was
-walk-each : (f : ℕ → Verdict) (n : ℕ) → accepted (verdict (walk n (judging f) Accepted)) ≡ true → (k : ℕ) → k < n → accepted (f k) ≡ true
-unfolding walk
-walk-each f zero e k h = absurd (not-suc-le-zero h)
-walk-each f (suc n) e k h = go (walk n (judging f) Accepted) (walk-each f n) refl e
-  where
-    go : (o : Out Verdict) → (accepted (verdict (walk n (judging f) Accepted)) ≡ true → (k : ℕ) → k < n → accepted (f k) ≡ true) → walk n (judging f) Accepted ≡ o → accepted (verdict (then (judging f n) o)) ≡ true → accepted (f k) ≡ true
-    go (out true u) each p q =
-        ⊎-elim (λ (d : k ≡ n). rw d q) (λ (l : k < n). each (ap (λ o. accepted (verdict o)) p ∙ walk-holds f n true u p) k l) (eq-or-lt-of-le (le-of-suc-le-suc h))
-    go (out false u) each p q = absurd (no (sym (walk-holds f n false u p) ∙ q))
-
 module _ (b : List ℕ) (p words : ℕ) where
   pair-ranged : (i : ℕ) → accepted (pairVerdict b p words i) ≡ true → (pairFrom b p i .word < words) × (natAbs (pairFrom b p i .coef) ≤ 8)
   unfolding pairVerdict accepted
@@ -90,13 +63,13 @@ module _ (b : List ℕ) (p words : ℕ) where
   length-is (suc (suc (suc (suc (suc n))))) l = absurd (omega arith)
 
   list-ranged : (n : ℕ) → n ≤ 4 → accepted (listVerdict b p words n) ≡ true → RangedList words (listFrom b p n)
-  unfolding listVerdict pairsVerdict accepted
+  unfolding listVerdict accepted
   list-ranged n l e =
       let a = need-held (eqb (byteAt b p) n) BadList _ refl e in
       let s = length-is n l in
       record {
-        short = record { few = rw s l; small = λ k h. rw (item-is n k (rw s at h) l) (pair-ranged k (walk-each (pairVerdict b p words) n (a .1) k (rw s at h)) .1) };
-        named = λ k h. rw (item-is n k (rw s at h) l) (pair-ranged k (walk-each (pairVerdict b p words) n (a .1) k (rw s at h)) .0);
+        short = record { few = rw s l; small = λ k h. rw (item-is n k (rw s at h) l) (pair-ranged k (first-each (pairVerdict b p words) n (a .1) k (rw s at h)) .1) };
+        named = λ k h. rw (item-is n k (rw s at h) l) (pair-ranged k (first-each (pairVerdict b p words) n (a .1) k (rw s at h)) .0);
       }
 
 -- a block with more words

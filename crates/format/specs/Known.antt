@@ -6,7 +6,7 @@ use lib.ListN.{getD}
 use lib.IntN.{pos}
 use Rattle.folds.specs.Fold.{walk, pick, both}
 use Rattle.block.specs.Block.{Block}
-use Rattle.format.specs.Read.{Outcome, block, refused, read, number, accepted, need, u16At, u32At, signed, i8At, i32At, within, isZero, rises, pairVerdict, pairsVerdict, listVerdict, wordVerdict, wordFrom, tempoVerdict, tempoFrom, anchorVerdict, anchorFrom, spanVerdict, spanFrom, capVerdict, pairsIn, count, hasRoom, headVerdict, bodyVerdict, fieldVerdict, withBody, withField, endVerdict, counts, fields}
+use Rattle.format.specs.Read.{Outcome, block, refused, read, number, accepted, need, u16At, u32At, signed, i8At, i32At, within, isZero, rises, pairVerdict, firstOf, listVerdict, wordVerdict, wordFrom, tempoVerdict, tempoFrom, anchorVerdict, anchorFrom, spanVerdict, spanFrom, capVerdict, pairsIn, count, hasRoom, headVerdict, bodyVerdict, fieldVerdict, withBody, withField, endVerdict, counts, fields}
 
 -- ---- fields
 -- a word from `lower` to the number whose first three bytes are a, b and c, of key 40 and start 0, with a slope of `slope` times 65,536
@@ -91,7 +91,7 @@ abbrev said : List ℕ × Outcome → Outcome
 said c = c .1
 
 cases-hold : map found cases ≡ map said cases
-unfolding walk pick both read number accepted need u16At u32At signed i8At i32At within isZero rises pairVerdict pairsVerdict listVerdict wordVerdict wordFrom tempoVerdict tempoFrom anchorVerdict anchorFrom spanVerdict spanFrom capVerdict pairsIn count hasRoom headVerdict bodyVerdict fieldVerdict withBody withField endVerdict counts fields
+unfolding walk pick both read number accepted need u16At u32At signed i8At i32At within isZero rises pairVerdict firstOf listVerdict wordVerdict wordFrom tempoVerdict tempoFrom anchorVerdict anchorFrom spanVerdict spanFrom capVerdict pairsIn count hasRoom headVerdict bodyVerdict fieldVerdict withBody withField endVerdict counts fields
 cases-hold = refl
 
 -- the P cases by their names

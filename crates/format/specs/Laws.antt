@@ -2,14 +2,15 @@
 use mathlib.Core.Path.{_≡_, refl, sym, _∙_, ap}
 use mathlib.Core.Bool.{Bool, true, false, not}
 use mathlib.Core.List.{List, [], _∷_, map}
+use mathlib.Core.Logic.{⊎-elim}
 use Prim.Native.Nat.{ℕ, zero, suc, _+_, _≤_, _<_}
-use native.Mathlib.Omega.{arith}
+use native.Mathlib.Nat.{not-suc-le-zero, le-of-suc-le-suc, eq-or-lt-of-le}
 use lib.Dec.{leb, ltb, eqb}
 use lib.ListN.{take}
 use borrow.Author.Tests.{lt-leb, le-leb, lt-ltb, le-ltb, eq-eqb, ne-eqb}
-use Rattle.folds.specs.Fold.{Out, out, walk, walk-call, walk-stop, walk-end, both, both-stop, both-on, picks, tests}
+use Rattle.folds.specs.Fold.{Out, out, then, walk, walk-call, walk-stop, walk-end, false-true, both-first, both-second, both-yes, picks, tests}
 use Rattle.block.specs.Block.{Item, Block}
-use Rattle.format.specs.Read.{need, after, accepted, judged, verdict, pairVerdict, pairsVerdict, hasRoom, bodyVerdict, withBody}
+use Rattle.format.specs.Read.{need, after, accepted, judging, verdict, firstOf, hasRoom, bodyVerdict, withBody}
 use Rattle.format.specs.Structs.{pairOf}
 use Rattle.format.specs.declared.Counts.{Counts}
 use Rattle.format.specs.declared.Pair.{Pair}
@@ -28,17 +29,6 @@ need-on v rest e f = rw e f
 -- the same for a verdict that a call gave
 pub after-stop : {r v : Verdict} (rest : Verdict) → r ≡ v → accepted v ≡ false → r ≡ after v rest
 after-stop rest e h = e ∙ need-stop _ rest h
-
-pub both-first : {a : Bool} (b : Bool) → a ≡ false → both a b ≡ false
-both-first b e = sym (both-stop b e)
-
-pub both-second : (a : Bool) {b : Bool} → b ≡ false → both a b ≡ false
-unfolding both
-both-second true e = e
-both-second false e = refl
-
-pub both-yes : {a b : Bool} → a ≡ true → b ≡ true → both a b ≡ true
-both-yes e f = sym (both-on e (sym f))
 
 pub not-true : {b : Bool} → b ≡ false → not b ≡ true
 not-true e = ap not e
@@ -99,35 +89,50 @@ pub ruleset orders = (order-yes, order-no, order-is)
 
 pub ruleset verdicts = (need-stop, need-on, after-stop, both-first, both-second, both-yes, not-true, not-false, picks, tests, calls)
 
--- ---- the pairs of a list, one at a time
-abbrev pub pairStep : List ℕ → ℕ → ℕ → ℕ → Verdict → Out Verdict
-pairStep b p words i v = judged (pairVerdict b p words i)
-
-no : false ≡ true → ⊥
-no e = let z : _≡_ {A = ℕ} 0 1 = cc in omega arith
-
-is-accepted : (v : Verdict) → accepted v ≡ true → v ≡ Accepted
+-- ---- a row of verdicts, one at a time
+pub is-accepted : (v : Verdict) → accepted v ≡ true → v ≡ Accepted
 unfolding accepted
 is-accepted Accepted e = refl
-is-accepted BadLength e = absurd (no e)
-is-accepted UnknownTag e = absurd (no e)
-is-accepted OutOfOrder e = absurd (no e)
-is-accepted TooMany e = absurd (no e)
-is-accepted OutOfRange e = absurd (no e)
-is-accepted CrossedBounds e = absurd (no e)
-is-accepted BadList e = absurd (no e)
+is-accepted BadLength e = absurd (false-true e)
+is-accepted UnknownTag e = absurd (false-true e)
+is-accepted OutOfOrder e = absurd (false-true e)
+is-accepted TooMany e = absurd (false-true e)
+is-accepted OutOfRange e = absurd (false-true e)
+is-accepted CrossedBounds e = absurd (false-true e)
+is-accepted BadList e = absurd (false-true e)
 
-module _ (b : List ℕ) (p words i : ℕ) (e : out true Accepted ≡ walk i (pairStep b p words) Accepted) where
-  pub pairs-turn : {v : Verdict} → v ≡ pairVerdict b p words i → accepted v ≡ true → out true Accepted ≡ walk (i + 1) (pairStep b p words) Accepted
-  pairs-turn {v} f h = walk-call i (pairStep b p words) Accepted e (rw (← f, h, is-accepted v h))
+module _ (f : ℕ → Verdict) (i : ℕ) (e : out true Accepted ≡ walk i (judging f) Accepted) where
+  pub first-turn : {v : Verdict} → v ≡ f i → accepted v ≡ true → out true Accepted ≡ walk (i + 1) (judging f) Accepted
+  first-turn {v} g h = walk-call i (judging f) Accepted e (rw (← g, h, is-accepted v h))
 
-  pub pairs-stop : {v : Verdict} (count : ℕ) → i < count → v ≡ pairVerdict b p words i → accepted v ≡ false → v ≡ pairsVerdict b p words count
-  unfolding pairsVerdict
-  pairs-stop count l f h = ap verdict (walk-stop i count (pairStep b p words) Accepted l e (rw (← f, h)))
+  pub first-stop : {v : Verdict} (n : ℕ) → i < n → v ≡ f i → accepted v ≡ false → v ≡ firstOf n f
+  unfolding firstOf
+  first-stop n l g h = ap verdict (walk-stop i n (judging f) Accepted l e (rw (← g, h)))
 
-  pub pairs-end : (count : ℕ) → i ≤ count → count ≤ i → Accepted ≡ pairsVerdict b p words count
-  unfolding pairsVerdict
-  pairs-end count l g = ap verdict (walk-end i count (pairStep b p words) Accepted l g e)
+  pub first-end : (n : ℕ) → i ≤ n → n ≤ i → Accepted ≡ firstOf n f
+  unfolding firstOf
+  first-end n l g = ap verdict (walk-end i n (judging f) Accepted l g e)
+
+-- what the walk holds is accepted exactly where it goes on
+walk-holds : (f : ℕ → Verdict) (n : ℕ) (t : Bool) (v : Verdict) → walk n (judging f) Accepted ≡ out t v → accepted v ≡ t
+unfolding walk accepted
+walk-holds f zero t v e = cc
+walk-holds f (suc n) t v e = next (walk n (judging f) Accepted) (walk-holds f n) refl e
+  where
+    next : (o : Out Verdict) → ((t : Bool) (v : Verdict) → walk n (judging f) Accepted ≡ out t v → accepted v ≡ t) → walk n (judging f) Accepted ≡ o → then (judging f n) o ≡ out t v → accepted v ≡ t
+    next (out true u) h p q = cc
+    next (out false u) h p q = let z = h false u p in cc
+
+-- where the first refusal is none, each was accepted
+pub first-each : (f : ℕ → Verdict) (n : ℕ) → accepted (firstOf n f) ≡ true → (k : ℕ) → k < n → accepted (f k) ≡ true
+unfolding walk firstOf
+first-each f zero e k h = absurd (not-suc-le-zero h)
+first-each f (suc n) e k h = go (walk n (judging f) Accepted) (first-each f n) refl e
+  where
+    go : (o : Out Verdict) → (accepted (verdict (walk n (judging f) Accepted)) ≡ true → (k : ℕ) → k < n → accepted (f k) ≡ true) → walk n (judging f) Accepted ≡ o → accepted (verdict (then (judging f n) o)) ≡ true → accepted (f k) ≡ true
+    go (out true u) each p q =
+        ⊎-elim (λ (d : k ≡ n). rw d q) (λ (l : k < n). each (ap (λ o. accepted (verdict o)) p ∙ walk-holds f n true u p) k l) (eq-or-lt-of-le (le-of-suc-le-suc h))
+    go (out false u) each p q = absurd (false-true (sym (walk-holds f n false u p) ∙ q))
 
 -- ---- the four pairs of a body, as many as its count
 map-take : {A B : Type 0} (f : A → B) (n : ℕ) (l : List A) → map f (take n l) ≡ take n (map f l)

@@ -144,20 +144,19 @@ pairVerdict b p words i =
     (need (not (isZero (i8At b (p + 2 * i + 2)))) OutOfRange
     Accepted)))
 
--- goes on where v is Accepted
-abbrev pub judged : Verdict → Out Verdict
-judged v = out (accepted v) v
+-- the first refusal of f 0, f 1, .., f (n - 1), or Accepted: a walk that goes on where its index is Accepted
+abbrev pub judging : (ℕ → Verdict) → ℕ → Verdict → Out Verdict
+judging f i v = out (accepted (f i)) (f i)
 
 abbrev pub verdict : Out Verdict → Verdict
 verdict (out on v) = v
 
--- the pairs' first refusal, in file order
-unfoldable pub pairsVerdict : List ℕ → ℕ → ℕ → ℕ → Verdict
-pairsVerdict b p words count = verdict (walk count (λ i v. judged (pairVerdict b p words i)) Accepted)
+unfoldable pub firstOf : ℕ → (ℕ → Verdict) → Verdict
+firstOf n f = verdict (walk n (judging f) Accepted)
 
 -- "a count that disagrees with a fitting length is 7": `count` is the length's
 unfoldable pub listVerdict : List ℕ → ℕ → ℕ → ℕ → Verdict
-listVerdict b p words count = need (eqb (byteAt b p) count) BadList (pairsVerdict b p words count)
+listVerdict b p words count = need (eqb (byteAt b p) count) BadList (firstOf count (pairVerdict b p words))
 
 abbrev pub pairFrom : List ℕ → ℕ → ℕ → Item
 pairFrom b p i = record { word = byteAt b (p + 2 * i + 1); coef = i8At b (p + 2 * i + 2) }

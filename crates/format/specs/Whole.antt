@@ -3,10 +3,10 @@ use mathlib.Core.Path.{_≡_, refl, sym, _∙_}
 use mathlib.Core.Bool.{Bool, true, false}
 use mathlib.Core.List.{List}
 use Prim.Native.Nat.{ℕ, _-_, _≤_}
-use native.Mathlib.Omega.{arith}
 use lib.Dec.{leb}
 use lib.ListN.{length}
 use borrow.Author.Tests.{leb-true}
+use Rattle.folds.specs.Fold.{false-true}
 use Rattle.format.specs.Read.{accepted, need, after, tag, len, countOf, oneTo, inOrder, hasRoom, headVerdict, capTag}
 use Rattle.format.specs.declared.Counts.{Counts}
 use Rattle.format.specs.declared.Verdict.{Verdict}
@@ -16,10 +16,7 @@ use Rattle.format.specs.declared.Verdict.the-variants.{BadLength, Unknow
 pub need-held : (t : Bool) (v rest : Verdict) → accepted v ≡ false → accepted (need t v rest) ≡ true → (t ≡ true) × (accepted rest ≡ true)
 unfolding need
 need-held true v rest f e = (refl, e)
-need-held false v rest f e = absurd (let z : _≡_ {A = Bool} true false = sym e ∙ f in no z)
-  where
-    no : true ≡ false → ⊥
-    no p = let z : _≡_ {A = ℕ} 0 1 = cc in omega arith
+need-held false v rest f e = absurd (false-true (sym f ∙ e))
 
 -- the same of a verdict and the rest
 pub after-held : (v rest : Verdict) → accepted (after v rest) ≡ true → (accepted v ≡ true) × (accepted rest ≡ true)

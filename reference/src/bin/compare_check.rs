@@ -1,0 +1,77 @@
+//! Compares `places_check` of the proved static library with the reference at scale: refusals,
+//! gaps, and that a refusal writes nothing.
+//!
+//!     cargo run --release --offline --features library --bin compare_check -- SEED COUNT
+
+use reference::cases::lists::Counts;
+use reference::cases::scale::check_case;
+use reference::check::check;
+use reference::compare;
+
+#[link(name = "capi", kind = "static")]
+unsafe extern "C" {
+    fn places_check(
+        block: *const u8,
+        block_length: usize,
+        times: *const i32,
+        times_length: usize,
+        prices: *const i64,
+        prices_length: usize,
+        gap: *mut i64,
+    ) -> u32;
+}
+
+/// What stands in the gap before each call.
+const UNTOUCHED: i64 = 0x5A5A_5A5A_5A5A_5A5A;
+
+/// A call's number, and the gap's place afterwards.
+type Outcome = (u32, i64);
+
+fn reference(block: &[u8], times: &[i32], prices: &[i64]) -> Outcome {
+    match check(block, times, prices) {
+        Ok(gap) => (0, gap),
+        Err(refusal) => (refusal, UNTOUCHED),
+    }
+}
+
+fn library(block: &[u8], times: &[i32], prices: &[i64]) -> Outcome {
+    let mut gap = UNTOUCHED;
+    // SAFETY: each pointer and length is of a slice that lives until the call ends, and `gap` is
+    // this function's own.
+    let number = unsafe {
+        places_check(
+            block.as_ptr(),
+            block.len(),
+            times.as_ptr(),
+            times.len(),
+            prices.as_ptr(),
+            prices.len(),
+            &mut gap,
+        )
+    };
+    (number, gap)
+}
+
+fn main() {
+    let (seed, count) = compare::arguments();
+    let mut counts = Counts::default();
+    let mut differences = 0;
+    for number in 0..count {
+        let (block, attempt) = check_case(seed, number);
+        let expected = reference(&block, &attempt.times, &attempt.prices);
+        let found = library(&block, &attempt.times, &attempt.prices);
+        counts.add("check", expected.0);
+        if found != expected {
+            differences += 1;
+            if differences == 1 {
+                println!("seed {seed}, case {number}: {block:?}\n{attempt:?}");
+                println!("reference: {expected:?}\nlibrary:   {found:?}\n");
+            }
+        }
+    }
+    println!("{}", counts.table());
+    println!("{count} cases of check from seed {seed}: {differences} differ");
+    if differences > 0 {
+        std::process::exit(1);
+    }
+}
