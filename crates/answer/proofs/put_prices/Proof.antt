@@ -1,0 +1,46 @@
+use Rattle.folds.specs.Kit.{_≡_, refl, sym, ap, _∙_, _+_, _*_, _-_, _≤_, length, arith, needs}
+use mathlib.Core.Path.{ap₂}
+use mathlib.Core.List.{List}
+use lib.IntN.{ℤ}
+use lib.ListN.{take}
+use lib.Seq.{take-all}
+use mir.Facts.{toZ-ofZ}
+use Rattle.answer.specs.File.{bytes, code, in8, each}
+use Rattle.answer.specs.Over.{over, over-none, each-turn, in8-wide}
+use Rattle.answer.proofs.put_prices.Statement.{statement}
+use Rattle.answer.proofs.put_prices.Tie as tie
+
+abbrev Inv-loop : tie.InvT-loop
+Inv-loop out₀ at prices n i₀ out i = (i ≤ length prices) × (length out ≡ length out₀) × (out ≡ over at (each in8 (take i prices)) out₀)
+
+abbrev μ-loop : tie.MeasureT-loop
+μ-loop out₀ at prices n i₀ out i = length prices - i
+
+pub put-prices-spec : {M : Type 1} → statement M
+unfolding each
+put-prices-spec =
+    tie.close
+    (tie.spec Inv-loop μ-loop
+    (λ c. (search needs, refl, over-none _ _))
+    (λ c. search needs)
+    (λ c. search needs)
+    (λ c. search needs)
+    (λ c. search needs)
+    (λ c κs. search needs)
+    (λ c κs. search needs)
+    (λ c. search needs)
+    (λ c. search needs)
+    (λ c.
+    let t = c .before .before .before .before .before .before .before in
+    let a = t .before .before in (
+      search needs,
+      search needs,
+      c .before .before .put .ensures
+          ∙ ap₂ (over (a .args .at + 8 * t .loop .k)) (ap (bytes 8) (c .before .before .before .code8 .ensures ∙ ap (code 9223372036854775808) (toZ-ofZ (record { sfits = c .before .before .before .before .before .p .given })))) (t .loop .inv .2)
+          ∙ each-turn in8 8 in8-wide (a .args .at) (a .args .at + 8 * t .loop .k) (t .loop .k) (a .args .prices .now) (a .args .out .now) (c .before .before .before .before .before .before .loop-test .taken) refl
+          (omega (arith, a .pre, c .before .before .before .before .before .before .loop-test .taken)),
+    ))
+    (λ c. c .before .loop .inv .1)
+    (λ c.
+    let a = c .before .before .before in
+    c .before .loop .inv .2 ∙ ap (λ (s : List ℤ). over (a .args .at) (each in8 s) (a .args .out .now)) (take-all _ _ (c .loop-test .left))))

@@ -1,0 +1,4 @@
+pub mod File
+pub mod Code
+pub mod Over
+pub mod Back

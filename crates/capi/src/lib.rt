@@ -1,0 +1,14 @@
+// The library's face: every call that C or Rust may make, under its C name. include/places.h says what each means. A slice is a pointer and a
+// count. A result of 0 is success, any other a number of document 01's refusal table, and then nothing is written.
+ghost use mathlib.Core.Path.{_≡_};
+ghost use Rattle.plan_check.specs.Check.{check, number, gapOr};
+ghost use Rattle.plan_check.specs.Promise.{CostBound};
+
+// The gap of anyone's plan (a time for each word) and prices (anchors, spans, cap).
+#[no_mangle]
+pub extern "C" fn places_check(block: &[u8], times: &[i32], prices: &[i64], gap: &mut i64) -> u32
+    ensures { λ r. ⌜ (r ≡ number (check (now (block .entry)) (now (times .entry)) (now (prices .entry)))) × (now (gap .exit) ≡ gapOr (check (now (block .entry)) (now (times .entry)) (now (prices .entry))) (now (gap .entry))) ⌝ }
+    ensures { λ r. ⌜ (r ≡ 0 → CostBound (now (block .entry)) (now (times .entry)) (now (gap .exit))) ⌝ }
+{
+    plan_check::check(block, times, prices, gap)
+}

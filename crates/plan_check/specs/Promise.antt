@@ -1,0 +1,18 @@
+-- What an accepted check tells of the plan: no plan that keeps the block costs less than cost − gap, in whole samples or over any denominator.
+use mathlib.Core.Path.{_≡_}
+use mathlib.Core.List.{List}
+use Prim.Native.Nat.{ℕ}
+use lib.IntN.{ℤ, pos, _+ℤ_, _-ℤ_, _*ℤ_}
+use lib.Signed.{_≤ℤ_}
+use Rattle.block.specs.Block.{Block}
+use Rattle.block.specs.Plan.{cost}
+use Rattle.block.specs.Keeps.{Keeps}
+use Rattle.block.specs.Finer.{costOver, KeepsOver}
+use Rattle.format.specs.Read.{Outcome, read}
+
+-- of the block file s, the plan x and the gap z
+pub record CostBound (s : List ℕ) (x : List ℤ) (z : ℤ) : Type 0 where
+  pub block : Block
+  pub is-read : read s ≡ Outcome.block block
+  pub whole : (y : List ℤ) → Keeps block y → (cost block x -ℤ z) ≤ℤ cost block y
+  pub over : (d : ℕ) (y : List ℤ) → KeepsOver d block y → (pos d *ℤ (pos d *ℤ cost block x)) ≤ℤ (costOver d block y +ℤ pos d *ℤ (pos d *ℤ z))
