@@ -1,7 +1,7 @@
 -- qp.rs, `Constraints`: E = YT, with Y an orthonormal basis for E's range, and Z one for the null space of Eᵀ, which completes Y.
 -- E is n by m, p = min(n, m). Y is n by rank, Z is n by n - rank, and T is p by m; its first `rank` rows count.
 use Prim.Native.Nat.{ℕ, _+_, _-_, _*_, min}
-use mathlib.Core.Bool.{Bool, true, false}
+use mathlib.Core.Bool.{Bool, false}
 use mathlib.Core.List.{List}
 use lib.Dec.{eqb}
 use lib.ListN.{set, take}
@@ -37,20 +37,20 @@ nullSpace n rank range =
     pick (eqb rank 0) (identity n) (fold 2 (λ _. lessRange n rank (n - rank) range) (rowsTransposed n rank (n - rank) (qTranspose n rank range)))
 
 -- ---- `Constraints::new`
--- what counts of its fields
+-- what counts of its fields; the rank is `pivots.len()`
 pub data Parts : Type 0 where
-  parts : (range null coefficients : List Float) (pivots : List ℕ) → Parts
+  parts : (rank : ℕ) (range null coefficients : List Float) (pivots : List ℕ) → Parts
 
 unfoldable pub constraintsOf : ℕ → ℕ → Constraints → Parts
 constraintsOf n m c =
     let rank = c .pivots .rank in
-    parts (take (n * rank) (c .range)) (take (n * (n - rank)) (c .null)) (take (min n m * m) (c .coefficients)) (take rank (c .pivots .column))
+    parts rank (take (n * rank) (c .range)) (take (n * (n - rank)) (c .null)) (take (min n m * m) (c .coefficients)) (take rank (c .pivots .column))
 
 unfoldable pub completed : ℕ → Pivoting → Parts
 completed n (pivoting left coefficients basis pivots) =
     let rank = pivots .rank in
     let range = take (n * rank) basis in
-    parts range (nullSpace n rank range) coefficients (take rank (pivots .column))
+    parts rank range (nullSpace n rank range) coefficients (take rank (pivots .column))
 
 unfoldable pub new : ℕ → ℕ → List Float → Parts
 new n m e = completed n (factored n m (min n m) e)

@@ -7,9 +7,9 @@ use native.Mathlib.Nat.{le-trans, mul-le-mul-left, mul-le-mul-right}
 use lib.ListN.{length, take, replicate}
 use lib.Ieee.{Float, nan}
 use Rattle.folds.specs.Fold.{tab, tabM, over}
-use Rattle.folds.specs.Tab.{length-tab, length-tabM, over-all, tab-all, take-replicate}
-use Rattle.folds.specs.Part.{Two, two}
-use Rattle.arith.specs.Float.{f0, at}
+use Rattle.folds.specs.Tab.{length-tabM, over-all, tab-all, take-replicate}
+use Rattle.folds.specs.Part.{two}
+use Rattle.arith.specs.Float.{f0}
 use Rattle.vector.specs.Vector.{copy, filled}
 use Rattle.matrix.specs.Matrix.{identity, unit, mulVec, trMulVec}
 use Rattle.householder.specs.Householder.{qr, qTrMul}

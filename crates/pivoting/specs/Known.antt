@@ -1,8 +1,7 @@
 -- A known case, computed: E of two columns, (3, 4) and its double (6, 8). The second is taken, Y = (0.6, 0.8), T = (5, 10), and nothing is left of the first.
 use mathlib.Core.Path.{_≡_, refl}
-use mathlib.Core.Bool.{true, false, not}
+use mathlib.Core.Bool.{true, false}
 use mathlib.Core.List.{List, [], _∷_}
-use Prim.Native.Nat.{ℕ}
 use lib.ListN.{set, replicate}
 use lib.Ieee.{Float, binary64, ofBits, add, sub, mul, div, lt, le, eq, isNan, ofInt}
 use Rattle.root.specs.Root.{root}

@@ -7,13 +7,13 @@ use native.Mathlib.Omega.{arith}
 use lib.ListN.{length, set, getD, replicate}
 use lib.Seq.{getD-set-other}
 use lib.Ieee.{Float, nan, le}
-use Rattle.folds.specs.Fold.{fold, walk, tab, over, pick, Out, out, ended, fold-keep, walk-keep}
+use Rattle.folds.specs.Fold.{fold, walk, tab, over, pick, out, ended, fold-keep, walk-keep}
 use Rattle.folds.specs.Part.{Two, two}
 use Rattle.folds.specs.Tab.{length-tab, over-all}
 use Rattle.arith.specs.Float.{at, f0}
 use Rattle.arith.specs.Scalar.{totalLess}
 use Rattle.vector.specs.Vector.{copy, filled}
-use Rattle.matrix.specs.Matrix.{cell, put, putColumn, column}
+use Rattle.matrix.specs.Matrix.{cell, putColumn, column}
 use Rattle.pivoting.specs.Pivoting.{better, betterOne, largestColumn, columnNorm, remains, Pivoting, pivoting, withPivot, withBasis, taken, choose, pivotStep, pivoted, noPivots, tolerance, factored, Taken}
 use Rattle.pivoting.specs.declared.Pivots.{Pivots}
 use Rattle.pivoting.specs.declared.Largest.{Largest}

@@ -3,7 +3,6 @@
 ghost use mathlib.Core.Path.{_≡_};
 ghost use Prim.Native.Nat.{_≤_, _<_, _*_, min, max};
 ghost use lib.ListN.{length};
-ghost use lib.Ieee.{Float};
 ghost use Rattle.folds.specs.Fold.{out};
 ghost use Rattle.folds.specs.Part.{two};
 ghost use Rattle.arith.specs.Float.{f0, at};
