@@ -1,0 +1,100 @@
+-- qp.rs, `checked`, `Units` and `diagonal_scales`. K is n by n, E is n by m; c and x have n elements, b has m.
+use Prim.Native.Nat.{ℕ}
+use mathlib.Core.Bool.{Bool, true, false, not}
+use mathlib.Core.List.{List}
+use lib.Ieee.{Float, binary64, isNan, lt, eq, ofBits}
+use Rattle.folds.specs.Fold.{tab, tabM, all, pick, both}
+use Rattle.arith.specs.Float.{fadd, fsub, fmul, fdiv, sqrt, f0, f1, at, sum}
+use Rattle.arith.specs.Scalar.{abs, max, isFinite}
+use Rattle.vector.specs.Vector.{amax, div}
+use Rattle.matrix.specs.Matrix.{cell, column}
+
+-- ---- `checked`: whether x satisfies Eᵀx = b in the original units, each constraint to within 1e-8 of the size of its terms
+-- `(column / scale).component_mul(&x)`
+unfoldable pub terms : ℕ → List Float → List Float → Float → List Float
+terms n e x scale = tab n (λ i. fmul (fdiv (at e i) scale) (at x i))
+
+-- `terms.iter().map(|t| t / largest).sum()` and `terms.iter().map(|t| (t / largest).abs()).sum()`
+unfoldable pub sumQuotients : ℕ → List Float → Float → Float
+sumQuotients n ts by = sum n (λ i. fdiv (at ts i) by)
+
+unfoldable pub sumSizes : ℕ → List Float → Float → Float
+sumSizes n ts by = sum n (λ i. abs (fdiv (at ts i) by))
+
+unfoldable pub residual : ℕ → List Float → Float → Float → Float
+residual n ts target largest = fsub (sumQuotients n ts largest) (fdiv target largest)
+
+unfoldable pub size : ℕ → List Float → Float → Float → Float
+size n ts target largest = fadd (sumSizes n ts largest) (abs (fdiv target largest))
+
+-- 1e-8
+abbrev pub rounding : Float
+rounding = ofBits binary64 0x3e45_798e_e230_8c3a
+
+-- `!(residual.is_nan() || residual.abs() > 1e-8 * size)`
+unfoldable pub meets : ℕ → List Float → Float → Float → Bool
+meets n ts target largest =
+    pick (isNan (residual n ts target largest)) false
+    (pick (lt (fmul rounding (size n ts target largest)) (abs (residual n ts target largest))) false true)
+
+-- `terms.amax().max(target.abs())`
+unfoldable pub largestOf : ℕ → List Float → Float → Float
+largestOf n ts target = max (amax n ts) (abs target)
+
+unfoldable pub columnMet : ℕ → List Float → Float → Bool
+columnMet n ts target =
+    pick (isFinite (largestOf n ts target))
+    (pick (eq (largestOf n ts target) f0) true (meets n ts target (largestOf n ts target)))
+    false
+
+unfoldable pub met : ℕ → List Float → List Float → Float → Float → Bool
+met n x e target scale = columnMet n (terms n e x scale) (fdiv target scale)
+
+unfoldable pub checked : ℕ → ℕ → List Float → List Float → List Float → List Float → Bool
+checked n m x e b columns = all m (λ j. met n x (column n e j) (at b j) (at columns j))
+
+-- ---- `Units`: the problem restated in u = Dx
+-- `s if s.is_finite() && s > 0.0 => s, _ => 1.0`
+unfoldable pub scaleOr1 : Float → Float
+scaleOr1 s = pick (isFinite s) (pick (lt f0 s) s f1) f1
+
+-- the largest entry of each column of E, or 1 where that's zero or not finite
+unfoldable pub columnScale : ℕ → List Float → ℕ → Float
+columnScale n e j = scaleOr1 (amax n (column n e j))
+
+unfoldable pub columnScales : ℕ → ℕ → List Float → List Float
+columnScales n m e = tab m (columnScale n e)
+
+-- dividing by each scale in turn
+unfoldable pub unitK : ℕ → List Float → List Float → ℕ → ℕ → Float
+unitK n k scales i j = fdiv (fdiv (cell k n i j) (at scales i)) (at scales j)
+
+unfoldable pub unitsK : ℕ → List Float → List Float → List Float
+unitsK n k scales = tabM n n (unitK n k scales)
+
+unfoldable pub unitE : ℕ → List Float → List Float → Float → ℕ → ℕ → Float
+unitE n e scales scale i j = fdiv (fdiv (cell e n i j) scale) (at scales i)
+
+unfoldable pub unitsE : ℕ → ℕ → List Float → List Float → List Float → List Float
+unitsE n m e scales columns = tabM n m (λ i j. unitE n e scales (at columns j) i j)
+
+-- `c.component_div(&scales)`, and each entry of b over its column's scale
+abbrev pub unitsC : ℕ → List Float → List Float → List Float
+unitsC n c scales = div n c scales
+
+abbrev pub unitsB : ℕ → List Float → List Float → List Float
+unitsB m b columns = div m b columns
+
+-- `original`: x = D⁻¹u, and `original_multipliers`
+abbrev pub original : ℕ → List Float → List Float → List Float
+original n u scales = div n u scales
+
+abbrev pub originalMultipliers : ℕ → List Float → List Float → List Float
+originalMultipliers m multipliers columns = div m multipliers columns
+
+-- ---- `diagonal_scales`: sqrt(Kᵢᵢ) for each variable, or 1 where that's zero or not finite
+unfoldable pub diagonalScale : ℕ → List Float → ℕ → Float
+diagonalScale n k i = scaleOr1 (sqrt (cell k n i i))
+
+unfoldable pub diagonalScales : ℕ → List Float → List Float
+diagonalScales n k = tab n (diagonalScale n k)
