@@ -1,0 +1,17 @@
+use Rattle.folds.specs.Kit.{needs, pick}
+use Rattle.scaled.specs.Scaled.{average, kScale}
+use Rattle.scaled.proofs.k_scale.Statement.{statement}
+use Rattle.scaled.proofs.k_scale.Tie as tie
+
+pub k-scale-spec : {M : Type 1} → statement M
+unfolding kScale average pick
+k-scale-spec =
+    tie.close
+    (tie.spec
+    (λ c κs. search needs)  -- trace-requires
+    (λ c κs. search needs)  -- from-usize-requires
+    (λ c. rw (← c .before .before .trace .ensures, ← c .before .from-usize .ensures, c .if1 .taken))  -- returns
+    (λ c κs. search needs)  -- is-finite-requires
+    (λ c. rw (← c .before .before .before .before .before .trace .ensures, ← c .before .before .before .before .from-usize .ensures, c .before .before .before .if1 .left, ← c .before .before .is-finite .ensures, c .before .if2 .taken, c .if3 .taken))  -- returns-2
+    (λ c. rw (← c .before .before .before .before .before .trace .ensures, ← c .before .before .before .before .from-usize .ensures, c .before .before .before .if1 .left, ← c .before .before .is-finite .ensures, c .before .if2 .taken, c .if3 .left))  -- returns-3
+    (λ c. rw (← c .before .before .before .before .trace .ensures, ← c .before .before .before .from-usize .ensures, c .before .before .if1 .left, ← c .before .is-finite .ensures, c .if2 .left)))  -- returns-4

@@ -1,0 +1,162 @@
+// qp.rs: `kkt_residual`, `within_rounding` and `Scaled`. K is n by n, E is n by m, with up to 32 variables and 24 columns.
+ghost use mathlib.Core.Path.{_≡_};
+ghost use Prim.Native.Nat.{_≤_, _<_, _*_};
+ghost use lib.ListN.{length, take};
+ghost use Rattle.folds.specs.Fold.{over};
+ghost use Rattle.matrix.specs.Matrix.{putColumn};
+ghost use Rattle.scaled.specs.Scaled as Definition;
+
+// How far x and the multipliers are from solving the system, and the size of the terms that is a difference of.
+pub struct Residual {
+    pub residual: f64,
+    pub size: f64,
+}
+
+// Whether a residual is within rounding of the size of its terms, unless either overflowed.
+pub enum Rounding {
+    Overflowed,
+    Outside,
+    Within,
+}
+
+// K's scale, unless its average diagonal entry is negative or not finite.
+pub enum Scale {
+    By(f64),
+    Refused,
+}
+
+// ‖Kx + Eλ − c‖
+fn stationarity(k: &[f64], c: &[f64], e: &[f64], x: &[f64], multipliers: &[f64], n: usize, m: usize) -> f64
+    requires { ⌜ (n ≤ 32) × (n * n ≤ length (now k)) × (n ≤ length (now c)) × (n * m ≤ length (now e)) × (n ≤ length (now x)) × (m ≤ length (now multipliers)) ⌝ }
+    ensures { λ r. ⌜ r ≡ Definition.stationarity n m (now (k .entry)) (now (c .entry)) (now (e .entry)) (now (x .entry)) (now (multipliers .entry)) ⌝ }
+{
+    let kx = dense::mul_vec(k, n, n, x);
+    let el = dense::mul_vec(e, n, m, multipliers);
+    let sum = dense::add(&kx[..n], &el[..n], n);
+    let left = dense::sub(&sum[..n], c, n);
+    vector::scaled_norm(&left[..n], n)
+}
+
+// ‖Eᵀx − b‖
+fn feasibility(e: &[f64], b: &[f64], x: &[f64], n: usize, m: usize) -> f64
+    requires { ⌜ (m ≤ 24) × (n * m ≤ length (now e)) × (m ≤ length (now b)) × (n ≤ length (now x)) ⌝ }
+    ensures { λ r. ⌜ r ≡ Definition.feasibility n m (now (e .entry)) (now (b .entry)) (now (x .entry)) ⌝ }
+{
+    let ex = dense::tr_mul_vec(e, n, m, x);
+    let left = dense::sub(&ex[..m], b, m);
+    vector::scaled_norm(&left[..m], m)
+}
+
+fn size(k: &[f64], c: &[f64], e: &[f64], b: &[f64], x: &[f64], multipliers: &[f64], n: usize, m: usize, noise: f64) -> f64
+    requires { ⌜ (n * n ≤ 1024) × (n * m ≤ 768) × (n * n ≤ length (now k)) × (n ≤ length (now c)) × (n * m ≤ length (now e)) × (m ≤ length (now b)) × (n ≤ length (now x)) × (m ≤ length (now multipliers)) ⌝ }
+    ensures { λ r. ⌜ r ≡ Definition.size n m (now (k .entry)) (now (c .entry)) (now (e .entry)) (now (b .entry)) (now (x .entry)) (now (multipliers .entry)) noise ⌝ }
+{
+    let x_norm = vector::scaled_norm(x, n);
+    let k_terms = vector::scaled_norm(k, n * n) * x_norm;
+    let e_terms = vector::scaled_norm(e, n * m) * (x_norm + vector::scaled_norm(multipliers, m));
+    k_terms + e_terms + vector::scaled_norm(c, n) + vector::scaled_norm(b, m) + noise
+}
+
+pub fn kkt_residual(k: &[f64], c: &[f64], e: &[f64], b: &[f64], x: &[f64], multipliers: &[f64], n: usize, m: usize, noise: f64) -> Residual
+    requires { ⌜ (n ≤ 32) × (m ≤ 24) × (n * n ≤ 1024) × (n * m ≤ 768) × (n * n ≤ length (now k)) × (n ≤ length (now c)) × (n * m ≤ length (now e)) × (m ≤ length (now b)) × (n ≤ length (now x)) × (m ≤ length (now multipliers)) ⌝ }
+    ensures { λ r. ⌜ r ≡ Definition.kktResidual n m (now (k .entry)) (now (c .entry)) (now (e .entry)) (now (b .entry)) (now (x .entry)) (now (multipliers .entry)) noise ⌝ }
+{
+    let residual = stationarity(k, c, e, x, multipliers, n, m) + feasibility(e, b, x, n, m);
+    let size = size(k, c, e, b, x, multipliers, n, m, noise);
+    Residual { residual: residual, size: size }
+}
+
+// ∞ ≤ ∞ holds, so a check that overflows would pass.
+pub fn within_rounding(r: Residual) -> Rounding
+    ensures { λ a. ⌜ a ≡ Definition.withinRounding r ⌝ }
+{
+    if arith::is_finite(r.residual) {
+        if arith::is_finite(r.size) {
+            if r.residual <= 1e-8 * r.size {
+                return Rounding::Within;
+            }
+            return Rounding::Outside;
+        }
+    }
+    Rounding::Overflowed
+}
+
+// A zero K, as the free block of a linear objective is, keeps scale 1.
+pub fn k_scale(k: &[f64], n: usize) -> Scale
+    requires { ⌜ n * n ≤ length (now k) ⌝ }
+    ensures { λ r. ⌜ r ≡ Definition.kScale n (now (k .entry)) ⌝ }
+{
+    let average = matrix::trace(k, n) / arith::from_usize(n);
+    if average == 0.0 {
+        return Scale::By(1.0);
+    }
+    if arith::is_finite(average) {
+        if average > 0.0 {
+            return Scale::By(average);
+        }
+    }
+    Scale::Refused
+}
+
+fn above_0_or_1(s: f64) -> f64
+    ensures { λ r. ⌜ r ≡ Definition.above0Or1 s ⌝ }
+{
+    if s > 0.0 {
+        return s;
+    }
+    1.0
+}
+
+fn column_scale(e: &[f64], n: usize, m: usize, j: usize) -> f64
+    requires { ⌜ (n * m ≤ length (now e)) × (j < m) ⌝ }
+    ensures { λ r. ⌜ r ≡ Definition.columnScale n (now (e .entry)) j ⌝ }
+{
+    above_0_or_1(vector::amax(matrix::column(e, n, m, j), n))
+}
+
+fn write_column_scales(e: &[f64], n: usize, m: usize, y: &mut [f64])
+    requires { ⌜ (n * m ≤ length (now e)) × (m ≤ length (now y)) ⌝ }
+    ensures { λ _. ⌜ now (y .exit) ≡ over (Definition.columnScales n m (now (e .entry))) (now (y .entry)) ⌝ }
+{
+    for j in 0..m {
+        y[j] = column_scale(e, n, m, j);
+    }
+}
+
+pub fn column_scales(e: &[f64], n: usize, m: usize) -> [f64; 24]
+    requires { ⌜ (m ≤ 24) × (n * m ≤ length (now e)) ⌝ }
+    ensures { λ r. ⌜ take m r ≡ Definition.columnScales n m (now (e .entry)) ⌝ }
+{
+    let mut y = [0.0; 24];
+    write_column_scales(e, n, m, &mut y);
+    y
+}
+
+fn e_column(e: &[f64], n: usize, m: usize, scale: f64, j: usize, y: &mut [f64])
+    requires { ⌜ (n * m ≤ length (now e)) × (n * m ≤ length (now y)) × (j < m) ⌝ }
+    ensures { λ _. ⌜ now (y .exit) ≡ putColumn n n j (λ i. Definition.scaledEntry n (now (e .entry)) scale i j) (now (y .entry)) ⌝ }
+{
+    for i in 0..n {
+        let v = matrix::get(e, n, m, i, j) / scale;
+        matrix::put(y, n, m, i, j, v);
+    }
+}
+
+fn write_e(e: &[f64], n: usize, m: usize, columns: &[f64], y: &mut [f64])
+    requires { ⌜ (n * m ≤ length (now e)) × (m ≤ length (now columns)) × (n * m ≤ length (now y)) ⌝ }
+    ensures { λ _. ⌜ now (y .exit) ≡ over (Definition.scaledE n m (now (e .entry)) (now (columns .entry))) (now (y .entry)) ⌝ }
+{
+    for j in 0..m {
+        e_column(e, n, m, columns[j], j, y);
+    }
+}
+
+// E, each column over its scale.
+pub fn scaled_e(e: &[f64], n: usize, m: usize, columns: &[f64]) -> [f64; 768]
+    requires { ⌜ (n * m ≤ 768) × (n * m ≤ length (now e)) × (m ≤ length (now columns)) ⌝ }
+    ensures { λ r. ⌜ take (n * m) r ≡ Definition.scaledE n m (now (e .entry)) (now (columns .entry)) ⌝ }
+{
+    let mut y = [0.0; 768];
+    write_e(e, n, m, columns, &mut y);
+    y
+}

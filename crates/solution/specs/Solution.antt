@@ -1,0 +1,71 @@
+-- qp.rs, the answers of `solve_noisy_kkt` and `solve_kkt`, and what is done with them.
+use Prim.Native.Nat.{ℕ}
+use mathlib.Core.Path.{_≡_, refl, ap}
+use mathlib.Core.List.{List}
+use lib.Ieee.{Float}
+use lib.ListN.{take}
+use Rattle.folds.specs.Fold.{tab, pick}
+use Rattle.arith.specs.Float.{fmul, fdiv, at}
+use Rattle.vector.specs.Vector.{allFinite}
+use Rattle.scaled.specs.Scaled.{kktResidual, withinRounding}
+use Rattle.scaled.specs.declared.Rounding.{Rounding}
+use Rattle.scaled.specs.declared.Rounding.the-variants.{Overflowed, Outside, Within}
+use Rattle.solution.specs.declared.Verdict.{Verdict}
+use Rattle.solution.specs.declared.Verdict.the-variants.{Solved, NoOptimum, WrongShape, NonFiniteCovariance, SingularCovariance}
+use Rattle.solution.specs.declared.Solution.{Solution}
+
+-- `Ok(Some((x, multipliers)))`, `Ok(None)`, and what is refused
+pub data Kkt : Type 0 where
+  optimum : (x multipliers : List Float) → Kkt
+  noOptimum : Kkt
+  wrongShape : Kkt
+  nonFinite : Kkt
+  singular : Kkt
+
+-- document 01's numbers; 0 solved, 100 no optimum
+unfoldable pub number : Verdict → ℕ
+number Solved = 0
+number NoOptimum = 100
+number WrongShape = 9
+number NonFiniteCovariance = 11
+number SingularCovariance = 12
+
+unfoldable pub answer : Verdict → List Float → List Float → Kkt
+answer Solved x multipliers = optimum x multipliers
+answer NoOptimum x multipliers = noOptimum
+answer WrongShape x multipliers = wrongShape
+answer NonFiniteCovariance x multipliers = nonFinite
+answer SingularCovariance x multipliers = singular
+
+unfoldable pub solutionOf : ℕ → ℕ → Solution → Kkt
+solutionOf n m r = answer (r .verdict) (take n (r .x)) (take m (r .multipliers))
+
+-- the system is solved to within rounding and x is finite, `match within_rounding(residual)`
+unfoldable pub judge : Rounding → ℕ → List Float → List Float → Kkt
+judge Overflowed n x multipliers = singular
+judge Outside n x multipliers = noOptimum
+judge Within n x multipliers = pick (allFinite n x) (optimum x multipliers) singular
+
+unfoldable pub judged : ℕ → ℕ → List Float → List Float → List Float → List Float → List Float → List Float → Float → Kkt
+judged n m k c e b x multipliers noise = judge (withinRounding (kktResidual n m k c e b x multipliers noise)) n x multipliers
+
+-- `multipliers[j] * problem.k_scale / problem.column_scales[j]`
+unfoldable pub rescaledMultipliers : ℕ → List Float → Float → List Float → List Float
+rescaledMultipliers m multipliers scale columns = tab m (λ j. fdiv (fmul (at multipliers j) scale) (at columns j))
+
+unfoldable pub rescaled : ℕ → Float → List Float → Kkt → Kkt
+rescaled m scale columns (optimum x multipliers) = optimum x (rescaledMultipliers m multipliers scale columns)
+rescaled m scale columns noOptimum = noOptimum
+rescaled m scale columns wrongShape = wrongShape
+rescaled m scale columns nonFinite = nonFinite
+rescaled m scale columns singular = singular
+
+-- the verdict stays
+pub rescaled-from : {l : List Float} (verdict : Verdict) (m : ℕ) (scale : Float) (columns x multipliers : List Float) →
+    l ≡ rescaledMultipliers m multipliers scale columns → answer verdict x l ≡ rescaled m scale columns (answer verdict x multipliers)
+unfolding answer rescaled
+rescaled-from Solved m scale columns x multipliers e = ap (optimum x) e
+rescaled-from NoOptimum m scale columns x multipliers e = refl
+rescaled-from WrongShape m scale columns x multipliers e = refl
+rescaled-from NonFiniteCovariance m scale columns x multipliers e = refl
+rescaled-from SingularCovariance m scale columns x multipliers e = refl

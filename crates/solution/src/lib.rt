@@ -1,0 +1,74 @@
+// qp.rs: the answers of `solve_noisy_kkt` and `solve_kkt`, and what is done with them. K is n by n, E is n by m, up to 32 and 24.
+ghost use mathlib.Core.Path.{_≡_};
+ghost use Prim.Native.Nat.{_≤_, _*_};
+ghost use lib.ListN.{length, take};
+ghost use Rattle.folds.specs.Fold.{over};
+ghost use Rattle.solution.specs.Solution as Definition;
+use scaled::Rounding;
+
+// What a solve answers.
+pub enum Verdict {
+    Solved,
+    NoOptimum,
+    WrongShape,
+    NonFiniteCovariance,
+    SingularCovariance,
+}
+
+// A verdict and, where it is Solved, x and the multipliers.
+pub struct Solution {
+    pub verdict: Verdict,
+    pub x: [f64; 48],
+    pub multipliers: [f64; 24],
+}
+
+pub fn refused(verdict: Verdict) -> Solution
+    ensures { λ r. ⌜ r .verdict ≡ verdict ⌝ }
+{
+    Solution { verdict: verdict, x: [0.0; 48], multipliers: [0.0; 24] }
+}
+
+// x and the multipliers if they solve the system to within rounding and x is finite.
+pub fn judged(k: &[f64], c: &[f64], e: &[f64], b: &[f64], x: [f64; 48], multipliers: [f64; 24], n: usize, m: usize, noise: f64) -> Solution
+    requires { ⌜ (n ≤ 32) × (m ≤ 24) × (n * n ≤ 1024) × (n * m ≤ 768) × (n * n ≤ length (now k)) × (n ≤ length (now c)) × (n * m ≤ length (now e)) × (m ≤ length (now b)) ⌝ }
+    ensures { λ r. ⌜ Definition.solutionOf n m r ≡ Definition.judged n m (now (k .entry)) (now (c .entry)) (now (e .entry)) (now (b .entry)) (take n x) (take m multipliers) noise ⌝ }
+{
+    let residual = scaled::kkt_residual(k, c, e, b, &x[..n], &multipliers[..m], n, m, noise);
+    match scaled::within_rounding(residual) {
+        Rounding::Overflowed => refused(Verdict::SingularCovariance),
+        Rounding::Outside => refused(Verdict::NoOptimum),
+        Rounding::Within => {
+            if vector::all_finite(&x[..n], n) {
+                return Solution { verdict: Verdict::Solved, x: x, multipliers: multipliers };
+            }
+            refused(Verdict::SingularCovariance)
+        }
+    }
+}
+
+fn write_rescaled(multipliers: &[f64], scale: f64, columns: &[f64], m: usize, y: &mut [f64])
+    requires { ⌜ (m ≤ length (now multipliers)) × (m ≤ length (now columns)) × (m ≤ length (now y)) ⌝ }
+    ensures { λ _. ⌜ now (y .exit) ≡ over (Definition.rescaledMultipliers m (now (multipliers .entry)) scale (now (columns .entry))) (now (y .entry)) ⌝ }
+{
+    for j in 0..m {
+        y[j] = multipliers[j] * scale / columns[j];
+    }
+}
+
+fn rescaled_multipliers(multipliers: &[f64], scale: f64, columns: &[f64], m: usize) -> [f64; 24]
+    requires { ⌜ (m ≤ 24) × (m ≤ length (now multipliers)) × (m ≤ length (now columns)) ⌝ }
+    ensures { λ r. ⌜ take m r ≡ Definition.rescaledMultipliers m (now (multipliers .entry)) scale (now (columns .entry)) ⌝ }
+{
+    let mut y = [0.0; 24];
+    write_rescaled(multipliers, scale, columns, m, &mut y);
+    y
+}
+
+// The multipliers of the system before K and the columns of E were scaled.
+pub fn rescaled(verdict: Verdict, x: [f64; 48], multipliers: [f64; 24], scale: f64, columns: &[f64], n: usize, m: usize) -> Solution
+    requires { ⌜ (m ≤ 24) × (m ≤ length (now columns)) ⌝ }
+    ensures { λ r. ⌜ Definition.solutionOf n m r ≡ Definition.rescaled m scale (now (columns .entry)) (Definition.answer verdict (take n x) (take m multipliers)) ⌝ }
+{
+    let restored = rescaled_multipliers(&multipliers[..m], scale, columns, m);
+    Solution { verdict: verdict, x: x, multipliers: restored }
+}
