@@ -26,7 +26,15 @@ pub enum Scale {
 }
 
 // ‖Kx + Eλ − c‖
-fn stationarity(k: &[f64], c: &[f64], e: &[f64], x: &[f64], multipliers: &[f64], n: usize, m: usize) -> f64
+fn stationarity(
+    k: &[f64],
+    c: &[f64],
+    e: &[f64],
+    x: &[f64],
+    multipliers: &[f64],
+    n: usize,
+    m: usize,
+) -> f64
     requires { ⌜ (n ≤ 32) × (n * n ≤ length (now k)) × (n ≤ length (now c)) × (n * m ≤ length (now e)) × (n ≤ length (now x)) × (m ≤ length (now multipliers)) ⌝ }
     ensures { λ r. ⌜ r ≡ Definition.stationarity n m (now (k .entry)) (now (c .entry)) (now (e .entry)) (now (x .entry)) (now (multipliers .entry)) ⌝ }
 {
@@ -47,7 +55,17 @@ fn feasibility(e: &[f64], b: &[f64], x: &[f64], n: usize, m: usize) -> f64
     vector::scaled_norm(&left[..m], m)
 }
 
-fn size(k: &[f64], c: &[f64], e: &[f64], b: &[f64], x: &[f64], multipliers: &[f64], n: usize, m: usize, noise: f64) -> f64
+fn size(
+    k: &[f64],
+    c: &[f64],
+    e: &[f64],
+    b: &[f64],
+    x: &[f64],
+    multipliers: &[f64],
+    n: usize,
+    m: usize,
+    noise: f64,
+) -> f64
     requires { ⌜ (n * n ≤ 1024) × (n * m ≤ 768) × (n * n ≤ length (now k)) × (n ≤ length (now c)) × (n * m ≤ length (now e)) × (m ≤ length (now b)) × (n ≤ length (now x)) × (m ≤ length (now multipliers)) ⌝ }
     ensures { λ r. ⌜ r ≡ Definition.size n m (now (k .entry)) (now (c .entry)) (now (e .entry)) (now (b .entry)) (now (x .entry)) (now (multipliers .entry)) noise ⌝ }
 {
@@ -57,13 +75,26 @@ fn size(k: &[f64], c: &[f64], e: &[f64], b: &[f64], x: &[f64], multipliers: &[f6
     k_terms + e_terms + vector::scaled_norm(c, n) + vector::scaled_norm(b, m) + noise
 }
 
-pub fn kkt_residual(k: &[f64], c: &[f64], e: &[f64], b: &[f64], x: &[f64], multipliers: &[f64], n: usize, m: usize, noise: f64) -> Residual
+pub fn kkt_residual(
+    k: &[f64],
+    c: &[f64],
+    e: &[f64],
+    b: &[f64],
+    x: &[f64],
+    multipliers: &[f64],
+    n: usize,
+    m: usize,
+    noise: f64,
+) -> Residual
     requires { ⌜ (n ≤ 32) × (m ≤ 24) × (n * n ≤ 1024) × (n * m ≤ 768) × (n * n ≤ length (now k)) × (n ≤ length (now c)) × (n * m ≤ length (now e)) × (m ≤ length (now b)) × (n ≤ length (now x)) × (m ≤ length (now multipliers)) ⌝ }
     ensures { λ r. ⌜ r ≡ Definition.kktResidual n m (now (k .entry)) (now (c .entry)) (now (e .entry)) (now (b .entry)) (now (x .entry)) (now (multipliers .entry)) noise ⌝ }
 {
     let residual = stationarity(k, c, e, x, multipliers, n, m) + feasibility(e, b, x, n, m);
     let size = size(k, c, e, b, x, multipliers, n, m, noise);
-    Residual { residual: residual, size: size }
+    Residual {
+        residual: residual,
+        size: size,
+    }
 }
 
 // ∞ ≤ ∞ holds, so a check that overflows would pass.

@@ -25,11 +25,25 @@ pub struct Solution {
 pub fn refused(verdict: Verdict) -> Solution
     ensures { λ r. ⌜ r .verdict ≡ verdict ⌝ }
 {
-    Solution { verdict: verdict, x: [0.0; 48], multipliers: [0.0; 24] }
+    Solution {
+        verdict: verdict,
+        x: [0.0; 48],
+        multipliers: [0.0; 24],
+    }
 }
 
 // x and the multipliers if they solve the system to within rounding and x is finite.
-pub fn judged(k: &[f64], c: &[f64], e: &[f64], b: &[f64], x: [f64; 48], multipliers: [f64; 24], n: usize, m: usize, noise: f64) -> Solution
+pub fn judged(
+    k: &[f64],
+    c: &[f64],
+    e: &[f64],
+    b: &[f64],
+    x: [f64; 48],
+    multipliers: [f64; 24],
+    n: usize,
+    m: usize,
+    noise: f64,
+) -> Solution
     requires { ⌜ (n ≤ 32) × (m ≤ 24) × (n * n ≤ 1024) × (n * m ≤ 768) × (n * n ≤ length (now k)) × (n ≤ length (now c)) × (n * m ≤ length (now e)) × (m ≤ length (now b)) ⌝ }
     ensures { λ r. ⌜ Definition.solutionOf n m r ≡ Definition.judged n m (now (k .entry)) (now (c .entry)) (now (e .entry)) (now (b .entry)) (take n x) (take m multipliers) noise ⌝ }
 {
@@ -39,7 +53,11 @@ pub fn judged(k: &[f64], c: &[f64], e: &[f64], b: &[f64], x: [f64; 48], multipli
         Rounding::Outside => refused(Verdict::NoOptimum),
         Rounding::Within => {
             if vector::all_finite(&x[..n], n) {
-                return Solution { verdict: Verdict::Solved, x: x, multipliers: multipliers };
+                return Solution {
+                    verdict: Verdict::Solved,
+                    x: x,
+                    multipliers: multipliers,
+                };
             }
             refused(Verdict::SingularCovariance)
         }
@@ -65,10 +83,22 @@ fn rescaled_multipliers(multipliers: &[f64], scale: f64, columns: &[f64], m: usi
 }
 
 // The multipliers of the system before K and the columns of E were scaled.
-pub fn rescaled(verdict: Verdict, x: [f64; 48], multipliers: [f64; 24], scale: f64, columns: &[f64], n: usize, m: usize) -> Solution
+pub fn rescaled(
+    verdict: Verdict,
+    x: [f64; 48],
+    multipliers: [f64; 24],
+    scale: f64,
+    columns: &[f64],
+    n: usize,
+    m: usize,
+) -> Solution
     requires { ⌜ (m ≤ 24) × (m ≤ length (now columns)) ⌝ }
     ensures { λ r. ⌜ Definition.solutionOf n m r ≡ Definition.rescaled m scale (now (columns .entry)) (Definition.answer verdict (take n x) (take m multipliers)) ⌝ }
 {
     let restored = rescaled_multipliers(&multipliers[..m], scale, columns, m);
-    Solution { verdict: verdict, x: x, multipliers: restored }
+    Solution {
+        verdict: verdict,
+        x: x,
+        multipliers: restored,
+    }
 }
