@@ -1,0 +1,72 @@
+-- Document 01, "Known blocks": the cases marked P, as a table, by one theorem. (P7 and P8 are of the root and of the factor.)
+use mathlib.Core.Path.{_≡_}
+use mathlib.Core.Bool.{Bool, true}
+use mathlib.Core.List.{List, [], _∷_, _++_, map}
+use Prim.Native.Nat.{ℕ}
+use lib.IntN.{ℤ, pos, negsuc}
+use Rattle.folds.specs.Fold.{fold, all, both, pick}
+use Rattle.ints.specs.Diff.{minℤ, maxℤ}
+use Rattle.ints.specs.Sum.{Σ}
+use Rattle.block.specs.Block.{Block, Word, Item, Anchor}
+use Rattle.block.specs.Plan.{sumOf, move, moves, bend, squareOf, squares, bends, cost}
+use Rattle.block.specs.Keeps.{windowKept, windowsKept}
+use Rattle.block.specs.Gap.{Prices, coefOf, slopeOf, g, anchorPart, spanPart, h, line, candidates, leastFrom, least, ownPart, own, words, values, ends, gap}
+use Rattle.format.specs.Read.{Outcome, read}
+use Rattle.format.specs.Known.{known, wide, wordOf, word, cap, repeated, P5-accepted, P5-refused, P6-refused}
+use Rattle.cases.specs.Kept.{fromTo, keeps}
+
+-- what a case says of: a whole number, a test, how a file is read
+pub data Value : Type 0 where
+  whole : ℤ → Value
+  truth : Bool → Value
+  file : Outcome → Value
+
+-- a case by its number: what is found, and what the document says
+pub record Case : Type 0 where
+  pub number : ℕ
+  pub found : Value
+  pub said : Value
+
+abbrev pub case : ℕ → Value → Value → Case
+case n f s = record { number = n; found = f; said = s }
+
+-- "that block": the known one, with another cap, and an anchor of coefficient 1
+abbrev one : List Item
+one = record { word = 0; coef = pos 1 } ∷ []
+
+abbrev anchored : List Word → ℕ → ℕ → Block
+anchored w c v = record { words = w; tempos = known .tempos; anchors = record { value = pos v; list = one } ∷ []; spans = []; cap = c }
+
+-- "Window 5..5, key 5"
+abbrev five : Word
+five = record { lower = 5; upper = 5; key = 5; start = 5; slope = 0 }
+
+abbrev plan : ℕ → List ℤ
+plan t = pos t ∷ []
+
+abbrev prices : List ℤ → ℕ → Prices
+prices a c = record { anchors = a; spans = []; cap = c }
+
+abbrev pub table : List Case
+table =
+    -- (P1) "that block with plan 50 and cap price 20: cost 400, moves 10, gap 0."
+    case 1 (whole (cost known (plan 50))) (whole (pos 400))
+    ∷ case 1 (whole (moves known (plan 50))) (whole (pos 10))
+    ∷ case 1 (whole (gap known (plan 50) (prices [] 20))) (whole (pos 0))
+    -- (P2) "Same plan, prices 0: gap 2000."
+    ∷ case 2 (whole (gap known (plan 50) (prices [] 0))) (whole (pos 2000))
+    -- (P3) "That block with cap 100 and an anchor 45 of coefficient 1, plan 50, anchor price 20, cap price 0: gap −200."
+    ∷ case 3 (whole (gap (anchored (known .words) 100 45) (plan 50) (prices (pos 20 ∷ []) 0))) (whole (negsuc 199))
+    -- (P4) "Window 5..5, key 5, anchor 5, prices 0: plan 5 keeps it, gap 0."
+    ∷ case 4 (truth (keeps (anchored (five ∷ []) 10 5) (plan 5))) (truth true)
+    ∷ case 4 (whole (gap (anchored (five ∷ []) 10 5) (plan 5) (prices (pos 0 ∷ []) 0))) (whole (pos 0))
+    -- (P5) "An upper of 262,144 is accepted, 262,145 gives 5."
+    ∷ case 5 (file (read (wordOf 0 0 0 4 0 ++ cap))) (file (Outcome.block wide))
+    ∷ case 5 (file (read (wordOf 0 1 0 4 0 ++ cap))) (file (Outcome.refused 5))
+    -- (P6) "33rd word gives 4."
+    ∷ case 6 (file (read (repeated 33 word ++ cap))) (file (Outcome.refused 4))
+    ∷ []
+
+pub P : map (λ c. c .found) table ≡ map (λ c. c .said) table
+unfolding fold all both pick Σ minℤ maxℤ sumOf move moves bend squareOf squares bends cost windowKept windowsKept coefOf slopeOf g anchorPart spanPart h line candidates leastFrom least ownPart own words values ends gap fromTo keeps
+P = rw (P5-accepted, P5-refused, P6-refused)
