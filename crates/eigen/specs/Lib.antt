@@ -1,2 +1,3 @@
 pub mod Eigen
 pub mod Known
+pub mod Laws

@@ -1,11 +1,15 @@
 -- qp.rs, `solve_noisy_kkt`: its steps in the null space of Eᵀ. K is n by n, Z is n by d; c and x have n elements, v and the gradient d.
-use Prim.Native.Nat.{ℕ}
+use Prim.Native.Nat.{ℕ, _+_, _*_}
 use mathlib.Core.List.{List}
+use lib.ListN.{take}
 use lib.Ieee.{Float, lt}
 use Rattle.folds.specs.Fold.{fold, pick}
-use Rattle.arith.specs.Float.{fdiv, f0, at}
-use Rattle.vector.specs.Vector.{dot, add, sub, addScaled, filled}
+use Rattle.arith.specs.Float.{fmul, fdiv, f0, epsilon, fromℕ, at}
+use Rattle.arith.specs.Scalar.{max}
+use Rattle.vector.specs.Vector.{dot, amax, add, sub, addScaled, filled}
 use Rattle.matrix.specs.Matrix.{column, mul, trMul, mulVec, trMulVec}
+use Rattle.eigen.specs.Eigen.{Eigen, eigen, nothing, symmetricEigen}
+use Rattle.reduced.specs.declared.Hessian.{Hessian}
 
 -- `&c - k * &x`
 unfoldable pub gradient : ℕ → List Float → List Float → List Float → List Float
@@ -19,6 +23,28 @@ reducedGradient n d k c z x = trMulVec n d z (gradient n k c x)
 unfoldable pub projected : ℕ → ℕ → List Float → List Float → List Float
 projected n d k z = mul d n d (trMul n d n z k) z
 
+-- ---- `reduced_hessian`: the eigendecomposition of ZᵀKZ, and the cutoff below which its eigenvalues count as zero
+pub data Reduced : Type 0 where
+  reduced : (values vectors : List Float) (cutoff : Float) → Reduced
+  none : Reduced
+
+-- `eigen.values.amax().max(k.amax()) * (k.nrows() + 1) as f64 * f64::EPSILON`
+unfoldable pub cutoff : ℕ → ℕ → List Float → List Float → Float
+cutoff n d k values = fmul (fmul (max (amax d values) (amax (n * n) k)) (fromℕ (n + 1))) epsilon
+
+-- `.ok_or(CutupError::SingularCovariance)?`
+unfoldable pub withCutoff : ℕ → ℕ → List Float → Eigen → Reduced
+withCutoff n d k (eigen values vectors) = reduced values vectors (cutoff n d k values)
+withCutoff n d k nothing = none
+
+unfoldable pub reducedHessian : ℕ → ℕ → List Float → List Float → Reduced
+reducedHessian n d k z = withCutoff n d k (symmetricEigen d (projected n d k z))
+
+-- what counts of its fields
+unfoldable pub hessianOf : ℕ → Hessian → Reduced
+hessianOf d h = pick (h .found) (reduced (take d (h .values)) (take (d * d) (h .vectors)) (h .cutoff)) none
+
+-- ---- the step in the range of the reduced Hessian
 -- `v + w * (w.dot(&gradient) / value)`, for the eigenvalues above the cutoff and their eigenvectors
 unfoldable pub rangeOne : ℕ → List Float → List Float → Float → List Float → ℕ → List Float → List Float
 rangeOne d values vectors cutoff gradient j v =

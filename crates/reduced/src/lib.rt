@@ -4,6 +4,14 @@ ghost use Prim.Native.Nat.{_≤_, _<_, _*_};
 ghost use lib.ListN.{length, take};
 ghost use Rattle.reduced.specs.Reduced as Definition;
 
+// The eigenvalues and eigenvectors of ZᵀKZ, where they were found, and the cutoff.
+pub struct Hessian {
+    pub found: bool,
+    pub values: [f64; 32],
+    pub vectors: [f64; 1024],
+    pub cutoff: f64,
+}
+
 // c − Kx
 pub fn gradient(k: &[f64], c: &[f64], x: &[f64], n: usize) -> [f64; 48]
     requires { ⌜ (n ≤ 32) × (n * n ≤ length (now k)) × (n ≤ length (now c)) × (n ≤ length (now x)) ⌝ }
@@ -30,6 +38,38 @@ pub fn projected(k: &[f64], z: &[f64], n: usize, d: usize) -> [f64; 1024]
     let zk = dense::tr_mul(z, n, d, k, n);
     let entries = d * n;
     dense::mul(&zk[..entries], d, n, z, d)
+}
+
+// Below this an eigenvalue of ZᵀKZ counts as zero: relative to K as well, so that a reduced Hessian that is all rounding error is zero.
+fn cutoff(values: &[f64], k: &[f64], n: usize, d: usize) -> f64
+    requires { ⌜ (n ≤ 32) × (n * n ≤ 1024) × (n * n ≤ length (now k)) × (d ≤ length (now values)) ⌝ }
+    ensures { λ r. ⌜ r ≡ Definition.cutoff n d (now (k .entry)) (now (values .entry)) ⌝ }
+{
+    let largest = arith::max(vector::amax(values, d), vector::amax(k, n * n));
+    largest * arith::from_usize(n + 1) * arith::EPSILON
+}
+
+pub fn reduced_hessian(k: &[f64], z: &[f64], n: usize, d: usize) -> Hessian
+    requires { ⌜ (n ≤ 32) × (d ≤ n) × (n * n ≤ 1024) × (d * n ≤ 1024) × (d * d ≤ 1024) × (n * n ≤ length (now k)) × (n * d ≤ length (now z)) ⌝ }
+    ensures { λ r. ⌜ Definition.hessianOf d r ≡ Definition.reducedHessian n d (now (k .entry)) (now (z .entry)) ⌝ }
+{
+    let mut values = [0.0; 32];
+    let mut vectors = [0.0; 1024];
+    let h = projected(k, z, n, d);
+    let square = d * d;
+    let found = eigen::symmetric_eigen(
+        &h[..square],
+        d,
+        &mut values[..d],
+        &mut vectors[..square],
+    );
+    let cutoff = cutoff(&values[..d], k, n, d);
+    Hessian {
+        found: found,
+        values: values,
+        vectors: vectors,
+        cutoff: cutoff,
+    }
 }
 
 // An eigenvector w's part of the step, if its eigenvalue is above the cutoff: w (w·gradient / value).

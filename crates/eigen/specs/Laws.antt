@@ -1,0 +1,87 @@
+-- Laws of the definitions: the lists of a decomposition have n and n * n elements.
+use mathlib.Core.Path.{_≡_, refl}
+use mathlib.Core.Bool.{Bool, true, false}
+use mathlib.Core.List.{List}
+use Prim.Native.Nat.{ℕ, zero, suc, _+_, _*_}
+use lib.ListN.{length, length-set}
+use lib.Ieee.{Float, eq}
+use Rattle.folds.specs.Fold.{fold-keep, span, pick, Out, out}
+use Rattle.folds.specs.Tab.{length-tab, length-tabM}
+use Rattle.folds.specs.Part.{two}
+use Rattle.folds.specs.Run.{run, Pass, more, done}
+use Rattle.arith.specs.Float.{f0}
+use Rattle.vector.specs.Vector.{filled}
+use Rattle.matrix.specs.Matrix.{cell, unit, identity}
+use Rattle.eigen.specs.declared.Turn.{Turn}
+use Rattle.eigen.specs.Eigen.{State, turnInRow, turnColumns, rotate, sweepRow, sweep, pass, sweeps, Eigen, eigen, nothing, values, answer, tolerance, start, jacobi, symmetricEigen}
+
+pick-keep : {A : Type 0} (P : A → Type 0) (b : Bool) {x y : A} → P x → P y → P (pick b x y)
+unfolding pick
+pick-keep P true p q = p
+pick-keep P false p q = q
+
+abbrev vectorsOf : State → List Float
+vectorsOf (two a v) = v
+
+abbrev Square : ℕ → State → Type 0
+Square n s = length (vectorsOf s) ≡ n * n
+
+turn-square : (n p q : ℕ) (t : Turn) (v : List Float) → length v ≡ n * n → length (turnColumns n p q t v) ≡ n * n
+unfolding turnColumns turnInRow
+turn-square n p q t v e = fold-keep (λ (a : List Float). length a ≡ n * n) n (turnInRow n p q t) v e (λ k s l h. simp (length-set) h)
+
+rotate-square : (n p q : ℕ) (s : State) → Square n s → Square n (rotate n p q s)
+unfolding rotate
+rotate-square n p q (two a v) e = pick-keep (Square n) (eq (cell a n p q) f0) e (turn-square n p q _ v e)
+
+sweep-square : (n : ℕ) (s : State) → Square n s → Square n (sweep n s)
+unfolding sweep sweepRow span
+sweep-square n s e =
+    fold-keep (Square n) n (sweepRow n) s e (λ p t l h. fold-keep (Square n) _ (λ q. rotate n p (p + 1 + q)) t h (λ q u m g. rotate-square n p (p + 1 + q) u g))
+
+abbrev stateOf : Out State → State
+stateOf (out r s) = s
+
+abbrev SquareAt : ℕ → Pass State (Out State) → Type 0
+SquareAt n (more s) = Square n s
+SquareAt n (done o) = Square n (stateOf o)
+
+pass-square : (n : ℕ) (tolerance : Float) (s : State) → Square n s → SquareAt n (pass n tolerance s)
+unfolding pass
+pass-square n tolerance (two a v) e = pick-keep (SquareAt n) _ e (pick-keep (SquareAt n) _ e (sweep-square n (two a v) e))
+
+run-square : (n : ℕ) (tolerance : Float) (left made : ℕ) (p : Pass State (Out State)) → SquareAt n p →
+    Square n (stateOf (run (λ i. pass n tolerance) (λ i z. out false z) left made p))
+unfolding run
+run-square n tolerance zero made (done o) e = e
+run-square n tolerance zero made (more s) e = e
+run-square n tolerance (suc left) made (done o) e = e
+run-square n tolerance (suc left) made (more s) e = run-square n tolerance left (made + 1) (pass n tolerance s) (pass-square n tolerance s e)
+
+-- what fills the n and n * n elements of two lists
+abbrev pub Fills : ℕ → Eigen → Type 0
+Fills n (eigen l v) = (length l ≡ n) × (length v ≡ n * n)
+Fills n nothing = n ≡ n
+
+answer-fills : (n : ℕ) (scale : Float) (o : Out State) → Square n (stateOf o) → Fills n (answer n scale o)
+unfolding values
+answer-fills n scale (out true (two a v)) e = (length-tab n _, e)
+answer-fills n scale (out false s) e = refl
+
+identity-square : (n : ℕ) → length (identity n) ≡ n * n
+unfolding identity
+identity-square n = length-tabM n n unit
+
+sweeps-square : (n : ℕ) (within : Float) (s : State) → Square n s → Square n (stateOf (sweeps n within s))
+unfolding sweeps
+sweeps-square n within s e = run-square n within 100 0 (more s) e
+
+jacobi-fills : (n : ℕ) (a : List Float) (scale : Float) → Fills n (jacobi n a scale)
+unfolding jacobi
+jacobi-fills n a scale =
+    answer-fills n scale (sweeps n (tolerance n (start n a scale)) (two (start n a scale) (identity n)))
+    (sweeps-square n (tolerance n (start n a scale)) (two (start n a scale) (identity n)) (identity-square n))
+
+pub fills : (n : ℕ) (a : List Float) → Fills n (symmetricEigen n a)
+unfolding symmetricEigen filled
+fills n a = pick-keep (Fills n) _ (pick-keep (Fills n) _ (length-tab n _, identity-square n) (jacobi-fills n a _)) refl

@@ -1,0 +1,37 @@
+use Rattle.folds.specs.Kit.{needs, pick}
+use Rattle.solution.specs.Solution.{solutionOf, answer}
+use Rattle.noisy_kkt.specs.NoisyKkt.{withScale, solveNoisyKkt}
+use Rattle.noisy_kkt.proofs.solve_noisy_kkt.Statement.{statement}
+use Rattle.noisy_kkt.proofs.solve_noisy_kkt.Tie as tie
+
+
+returns : tie.Need-returns
+unfolding solveNoisyKkt withScale pick
+returns c =
+    let b4 = c .before .before .before .before in
+    rw (← b4 .before .before .finite .ensures, b4 .before .if1 .taken, ← b4 .k-scale .ensures, c .before .before .scale .given .1) (c .solve-by .ensures)
+
+returns-2 : tie.Need-returns-2
+unfolding solveNoisyKkt withScale pick solutionOf answer
+returns-2 c =
+    let b3 = c .before .before .before in
+    rw (← b3 .before .before .finite .ensures, b3 .before .if1 .taken, ← b3 .k-scale .ensures, c .before .enum-told .given .1, c .refused .ensures)
+
+returns-3 : tie.Need-returns-3
+unfolding solveNoisyKkt pick solutionOf answer
+returns-3 c = rw (← c .before .before .finite .ensures, c .before .if1 .left, c .refused2 .ensures)
+
+pub solve-noisy-kkt-spec : {M : Type 1} → statement M
+solve-noisy-kkt-spec =
+    tie.close
+    (tie.spec
+    (λ c κs. search needs)  -- finite-requires
+    (λ c κs. search needs)  -- k-scale-requires
+    (λ c. search needs)  -- enum-known-scale
+    (λ c κs. search needs)  -- solve-by-requires
+    (λ c. search needs)  -- enum-told
+    (λ c κs. search needs)  -- refused-requires
+    returns
+    returns-2
+    (λ c κs. search needs)  -- refused-requires-2
+    returns-3)

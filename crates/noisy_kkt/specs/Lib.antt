@@ -1,0 +1,2 @@
+pub mod NoisyKkt
+pub mod Laws
