@@ -56,7 +56,15 @@ fn solve_over(
     let x = least.x;
     if least.found {
         let g = reduced::gradient(k, c, &x[..n], n);
-        let multipliers = constraints::multipliers(range, coefficients, n, m, &g[..n], pivots, rank);
+        let multipliers = constraints::multipliers(
+            range,
+            coefficients,
+            n,
+            m,
+            &g[..n],
+            pivots,
+            rank,
+        );
         return solution::judged(k, c, e, b, x, multipliers, n, m, noise);
     }
     solution::refused(Verdict::SingularCovariance)

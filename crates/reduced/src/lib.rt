@@ -57,12 +57,7 @@ pub fn reduced_hessian(k: &[f64], z: &[f64], n: usize, d: usize) -> Hessian
     let mut vectors = [0.0; 1024];
     let h = projected(k, z, n, d);
     let square = d * d;
-    let found = eigen::symmetric_eigen(
-        &h[..square],
-        d,
-        &mut values[..d],
-        &mut vectors[..square],
-    );
+    let found = eigen::symmetric_eigen(&h[..square], d, &mut values[..d], &mut vectors[..square]);
     let cutoff = cutoff(&values[..d], k, n, d);
     Hessian {
         found: found,

@@ -22,14 +22,6 @@ pub data Kkt : Type 0 where
   nonFinite : Kkt
   singular : Kkt
 
--- document 01's numbers; 0 solved, 100 no optimum
-unfoldable pub number : Verdict → ℕ
-number Solved = 0
-number NoOptimum = 100
-number WrongShape = 9
-number NonFiniteCovariance = 11
-number SingularCovariance = 12
-
 unfoldable pub answer : Verdict → List Float → List Float → Kkt
 answer Solved x multipliers = optimum x multipliers
 answer NoOptimum x multipliers = noOptimum

@@ -3,7 +3,6 @@ use Rattle.noisy_kkt.specs.NoisyKkt.{finite}
 use Rattle.noisy_kkt.proofs.finite.Statement.{statement}
 use Rattle.noisy_kkt.proofs.finite.Tie as tie
 
-
 returns : tie.Need-returns
 unfolding finite both
 returns c = rw (← c .before .before .all-finite .ensures, c .before .if1 .taken) (c .all-finite2 .ensures)

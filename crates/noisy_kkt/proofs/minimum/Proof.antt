@@ -6,7 +6,6 @@ use Rattle.noisy_kkt.specs.Laws.{minimum-from}
 use Rattle.noisy_kkt.proofs.minimum.Statement.{statement}
 use Rattle.noisy_kkt.proofs.minimum.Tie as tie
 
-
 values-long : (c : tie.After-reduced-hessian) → length (c .reduced-hessian .result .values) ≡ 32
 values-long c = search needs
 

@@ -5,7 +5,6 @@ use Rattle.noisy_kkt.specs.NoisyKkt.{solveBy}
 use Rattle.noisy_kkt.proofs.solve_by.Statement.{statement}
 use Rattle.noisy_kkt.proofs.solve_by.Tie as tie
 
-
 slice-aggregate-scaled-e : tie.Need-slice-aggregate-scaled-e
 slice-aggregate-scaled-e c = sym (length-take-le _ _ (omega arith))
 

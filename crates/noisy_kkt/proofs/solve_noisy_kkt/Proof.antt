@@ -4,7 +4,6 @@ use Rattle.noisy_kkt.specs.NoisyKkt.{withScale, solveNoisyKkt}
 use Rattle.noisy_kkt.proofs.solve_noisy_kkt.Statement.{statement}
 use Rattle.noisy_kkt.proofs.solve_noisy_kkt.Tie as tie
 
-
 returns : tie.Need-returns
 unfolding solveNoisyKkt withScale pick
 returns c =

@@ -6,7 +6,6 @@ use Rattle.noisy_kkt.specs.Laws.{over-least, over-unknown}
 use Rattle.noisy_kkt.proofs.solve_over.Statement.{statement}
 use Rattle.noisy_kkt.proofs.solve_over.Tie as tie
 
-
 slice-aggregate-minimum : tie.Need-slice-aggregate-minimum
 slice-aggregate-minimum c = sym (length-take-le _ _ (omega arith))
 

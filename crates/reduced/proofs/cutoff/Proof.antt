@@ -3,7 +3,6 @@ use Rattle.reduced.specs.Reduced.{cutoff}
 use Rattle.reduced.proofs.cutoff.Statement.{statement}
 use Rattle.reduced.proofs.cutoff.Tie as tie
 
-
 returns : tie.Need-returns
 unfolding cutoff
 returns c = rw (c .from-usize .ensures, c .before .max .ensures, c .before .before .amax2 .ensures, c .before .before .before .amax .ensures)

@@ -6,7 +6,6 @@ use Rattle.reduced.specs.Laws.{hessian-from}
 use Rattle.reduced.proofs.reduced_hessian.Statement.{statement}
 use Rattle.reduced.proofs.reduced_hessian.Tie as tie
 
-
 slice-aggregate-symmetric-eigen : tie.Need-slice-aggregate-symmetric-eigen
 slice-aggregate-symmetric-eigen c = sym (length-take-le _ _ (omega arith))
 

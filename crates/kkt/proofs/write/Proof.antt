@@ -1,0 +1,67 @@
+use Rattle.folds.specs.Kit.{refl, sym, _∙_, arith, needs}
+use lib.Seq.{length-take-le}
+use Rattle.solution.specs.Solution.{answer}
+use Rattle.kkt.specs.Kkt.{number, xOr, multipliersOr}
+use Rattle.kkt.specs.Laws.{copy-over}
+use Rattle.kkt.proofs.write.Statement.{statement}
+use Rattle.kkt.proofs.write.Tie as tie
+
+slice-aggregate-copy : tie.Need-slice-aggregate-copy
+slice-aggregate-copy c = sym (length-take-le _ _ (omega arith))
+
+copy-requires : tie.Need-copy-requires
+copy-requires c κs = (omega (arith, slice-aggregate-copy (c .before)), omega arith)
+
+slice-aggregate-copy-2 : tie.Need-slice-aggregate-copy-2
+slice-aggregate-copy-2 c = sym (length-take-le _ _ (omega arith))
+
+copy-requires-2 : tie.Need-copy-requires-2
+copy-requires-2 c κs = (omega (arith, slice-aggregate-copy-2 (c .before)), omega arith)
+
+returns : tie.Need-returns
+unfolding number xOr multipliersOr answer
+returns c =
+    let b2 = c .before .before in
+    let b7 = b2 .before .before .before .before .before in
+    let p = b7 .before .before .before .before .before .before .before .pre in
+    rw (b7 .before .before .before .enum-told .given .1)
+    (refl, (b7 .copy .ensures ∙ copy-over _ _ _ (sym (slice-aggregate-copy (b7 .before .before))) (p .2), b2 .copy2 .ensures ∙ copy-over _ _ _ (sym (slice-aggregate-copy-2 (b2 .before .before))) (p .3)))
+
+returns-2 : tie.Need-returns-2
+unfolding number xOr multipliersOr answer
+returns-2 c = rw (c .enum-told2 .given .1) (refl, (refl, refl))
+
+returns-3 : tie.Need-returns-3
+unfolding number xOr multipliersOr answer
+returns-3 c = rw (c .enum-told3 .given .1) (refl, (refl, refl))
+
+returns-4 : tie.Need-returns-4
+unfolding number xOr multipliersOr answer
+returns-4 c = rw (c .enum-told4 .given .1) (refl, (refl, refl))
+
+returns-5 : tie.Need-returns-5
+unfolding number xOr multipliersOr answer
+returns-5 c = rw (c .enum-told5 .given .1) (refl, (refl, refl))
+
+pub write-spec : {M : Type 1} → statement M
+write-spec =
+    tie.close
+    (tie.spec
+    (λ c. search needs)  -- enum-told
+    (λ c. search needs)  -- array-share-prefix-optimum
+    slice-aggregate-copy
+    copy-requires
+    (λ c. search needs)  -- array-share-prefix-lambda
+    slice-aggregate-copy-2
+    copy-requires-2
+    (λ c. search needs)  -- enum-told-2
+    (λ c. search needs)  -- enum-told-3
+    (λ c. search needs)  -- enum-told-4
+    (λ c. search needs)  -- enum-told-5
+    (λ c. search needs)  -- same-length
+    (λ c. search needs)  -- same-length-2
+    returns
+    returns-2
+    returns-3
+    returns-4
+    returns-5)

@@ -1,0 +1,2 @@
+pub mod Kkt
+pub mod Laws
