@@ -1,0 +1,225 @@
+// Reads the records of the fixed lists of cases (docs/CASES.md) and compares floats with them. Past the end of a record
+// every byte is 0.
+use libc::STDIN_FILENO;
+use libc::STDOUT_FILENO;
+ghost use Prim.Native.Nat.{_≤_, _<_};
+ghost use lib.ListN.{length};
+
+fn wide(b: u8) -> usize
+    ensures { λ r. ⌜ r < 256 ⌝ }
+{
+    b as usize
+}
+
+pub fn byte(s: &[u8], at: usize) -> usize
+    ensures { λ r. ⌜ r < 256 ⌝ }
+{
+    if at < s.len() {
+        return wide(s[at]);
+    }
+    0
+}
+
+// The place w bytes further, or the end.
+pub fn past(s: &[u8], at: usize, w: usize) -> usize
+    ensures { λ r. ⌜ r ≤ length (now (s .entry)) ⌝ }
+{
+    if at > s.len() {
+        return s.len();
+    }
+    if w > s.len() - at {
+        return s.len();
+    }
+    at + w
+}
+
+// Numbers of 16, 32 and 64 bits, low byte first.
+pub fn number(s: &[u8], at: usize) -> usize
+    ensures { λ r. ⌜ r < 65536 ⌝ }
+{
+    byte(s, at) + byte(s, past(s, at, 1)) * 256
+}
+
+pub fn number32(s: &[u8], at: usize) -> usize
+    ensures { λ r. ⌜ r < 4294967296 ⌝ }
+{
+    number(s, at) + number(s, past(s, at, 2)) * 65536
+}
+
+fn pattern(s: &[u8], at: usize) -> u64 {
+    (number32(s, at) + number32(s, past(s, at, 4)) * 4294967296) as u64
+}
+
+// The float of a pattern; every NaN's pattern is NaN's.
+fn float_of(b: u64) -> f64 {
+    if b % 0x8000_0000_0000_0000 > 0x7ff0_0000_0000_0000 {
+        return 0.0 / 0.0;
+    }
+    f64::from_bits(b)
+}
+
+fn whole(i: usize) -> f64 {
+    std::num::nearest_u64_to_f64(i as u64)
+}
+
+// i / 256 for the signed number that 16 bits stand for.
+fn fraction(i: usize) -> f64 {
+    if i < 32768 {
+        return whole(i) / 256.0;
+    }
+    (whole(i) - 65536.0) / 256.0
+}
+
+// The float whose code begins with the byte t at a place.
+fn coded(s: &[u8], at: usize, t: usize) -> f64 {
+    if t <= 250 {
+        return whole(t) - 125.0;
+    }
+    if t == 251 {
+        return fraction(number(s, past(s, at, 1)));
+    }
+    if t == 253 {
+        return -0.0;
+    }
+    if t == 255 {
+        return float_of(pattern(s, past(s, at, 1)));
+    }
+    0.0 / 0.0
+}
+
+// How many bytes that code has.
+fn width(t: usize) -> usize {
+    if t == 251 {
+        return 3;
+    }
+    if t == 255 {
+        return 9;
+    }
+    1
+}
+
+// Where a reader of floats is: the next byte, the last float, and how many times more it comes.
+pub struct Cursor {
+    pub at: usize,
+    pub last: f64,
+    pub again: usize,
+}
+
+pub fn start(at: usize) -> Cursor {
+    Cursor {
+        at: at,
+        last: 0.0,
+        again: 0,
+    }
+}
+
+fn one_less(k: usize) -> usize {
+    if k == 0 {
+        return 0;
+    }
+    k - 1
+}
+
+// The next float, which is then the cursor's last.
+pub fn next(s: &[u8], c: Cursor) -> Cursor {
+    let mut then = c;
+    if c.again > 0 {
+        then.again = c.again - 1;
+        return then;
+    }
+    let t = byte(s, c.at);
+    if t == 252 {
+        then.again = one_less(byte(s, past(s, c.at, 1)));
+        then.at = past(s, c.at, 2);
+        return then;
+    }
+    then.last = coded(s, c.at, t);
+    then.at = past(s, c.at, width(t));
+    then
+}
+
+fn least(a: usize, b: usize) -> usize
+    ensures { λ r. ⌜ r ≤ b ⌝ }
+{
+    if a < b {
+        return a;
+    }
+    b
+}
+
+// How many floats a slice has, and where it ends.
+pub struct Floats {
+    pub count: usize,
+    pub at: usize,
+}
+
+// The slice at a place, its floats at the start of y: no more than y has room for.
+pub fn slice(s: &[u8], at: usize, y: &mut [f64]) -> Floats
+    ensures { λ r. ⌜ r .count ≤ length (now (y .entry)) ⌝ }
+{
+    let n = least(number(s, at), y.len());
+    let mut c = start(past(s, at, 2));
+    for i in 0..n {
+        c = next(s, c);
+        y[i] = c.last;
+    }
+    Floats { count: n, at: c.at }
+}
+
+// 0 for equal bits and for two NaNs, else 1. Of equal floats only the zeros can have other bits, and these have other
+// inverses.
+pub fn differs(a: f64, b: f64) -> usize
+    ensures { λ r. ⌜ r ≤ 1 ⌝ }
+{
+    if a == b {
+        if 1.0 / a == 1.0 / b {
+            return 0;
+        }
+        return 1;
+    }
+    if a == a {
+        return 1;
+    }
+    if b == b {
+        return 1;
+    }
+    0
+}
+
+// How many floats differ; 1 where there are more of the one than of the other.
+pub fn differing(a: &[f64], b: &[f64]) -> usize {
+    if a.len() != b.len() {
+        return 1;
+    }
+    let mut d = 0;
+    for i in 0..a.len() {
+        d = d + differs(a[i], b[i]);
+    }
+    d
+}
+
+// More than any length.
+const END: usize = 0xffff_ffff_ffff_ffff;
+
+// The next record of standard input goes to the start of body: its length, or more than body has where there is none.
+pub fn record(body: &mut [u8]) -> usize {
+    let mut head = [0u8; 2];
+    if io::read_full(STDIN_FILENO, &mut head) < 2 {
+        return END;
+    }
+    let n = number(&head, 0);
+    if n > body.len() {
+        return END;
+    }
+    if io::read_full(STDIN_FILENO, &mut body[..n]) < n {
+        return END;
+    }
+    n
+}
+
+// A line of standard output.
+pub fn line(name: &[u8], n: u64) {
+    io::write_all(STDOUT_FILENO, name);
+    io::print_decimal(STDOUT_FILENO, n);
+    io::write_all(STDOUT_FILENO, b"\n");
+}
