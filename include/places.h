@@ -35,6 +35,10 @@ uint32_t places_check(const uint8_t *block, size_t block_len,
                       const int64_t *prices, size_t prices_len,
                       int64_t *gap);
 
+/* IEEE 754's square root of a binary64: the nearest one to the real root, ties to even. The root of -0 is -0, of +infinity +infinity, and of a
+ * NaN or anything below zero a NaN. It refuses nothing. */
+double places_sqrt(double x);
+
 #ifdef __cplusplus
 }
 #endif

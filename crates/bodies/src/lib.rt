@@ -186,14 +186,14 @@ pub fn span_verdict(b: &[u8], words: u64, count: usize) -> Verdict
 {
     if numbers::i32_within(format::MAX_SUM, b, 0) {
         if numbers::i32_within(format::MAX_SUM, b, 4) {
-            let v = list_verdict(b, 8, words, count);
-            if numbers::accepted(v) {
+            let list = list_verdict(b, 8, words, count);
+            if numbers::accepted(list) {
                 if numbers::i32_le(b, 0, 4) {
                     return Verdict::Accepted;
                 }
                 return Verdict::CrossedBounds;
             }
-            return v;
+            return list;
         }
         return Verdict::OutOfRange;
     }

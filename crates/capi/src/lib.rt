@@ -1,6 +1,8 @@
 // The library's face: every call that C or Rust may make, under its C name. include/places.h says what each means. A slice is a pointer and a
 // count. A result of 0 is success, any other a number of document 01's refusal table, and then nothing is written.
 ghost use mathlib.Core.Path.{_≡_};
+ghost use lib.Ieee.{binary64};
+ghost use Rattle.root.specs.Root.{root};
 ghost use Rattle.plan_check.specs.Check.{check, number, gapOr};
 ghost use Rattle.plan_check.specs.Promise.{CostBound};
 
@@ -11,4 +13,12 @@ pub extern "C" fn places_check(block: &[u8], times: &[i32], prices: &[i64], gap:
     ensures { λ r. ⌜ (r ≡ 0 → CostBound (now (block .entry)) (now (times .entry)) (now (gap .exit))) ⌝ }
 {
     plan_check::check(block, times, prices, gap)
+}
+
+// IEEE 754's square root.
+#[no_mangle]
+pub extern "C" fn places_sqrt(x: f64) -> f64
+    ensures { λ r. ⌜ r ≡ root binary64 x ⌝ }
+{
+    root::sqrt(x)
 }

@@ -1,9 +1,10 @@
--- Document 01, "Known blocks": the cases marked P, as a table, by one theorem. (P7 and P8 are of the root and of the factor.)
+-- Document 01, "Known blocks": the cases marked P, as a table, by one theorem. (P8 is of the factor.)
 use mathlib.Core.Path.{_≡_}
 use mathlib.Core.Bool.{Bool, true}
 use mathlib.Core.List.{List, [], _∷_, _++_, map}
 use Prim.Native.Nat.{ℕ}
 use lib.IntN.{ℤ, pos, negsuc}
+use lib.Ieee.{Float, nan, neg}
 use Rattle.folds.specs.Fold.{fold, all, both, pick}
 use Rattle.ints.specs.Diff.{minℤ, maxℤ}
 use Rattle.ints.specs.Sum.{Σ}
@@ -13,13 +14,16 @@ use Rattle.block.specs.Keeps.{windowKept, windowsKept}
 use Rattle.block.specs.Gap.{Prices, coefOf, slopeOf, g, anchorPart, spanPart, h, line, candidates, leastFrom, least, ownPart, own, words, values, ends, gap}
 use Rattle.format.specs.Read.{Outcome, read}
 use Rattle.format.specs.Known.{known, wide, wordOf, word, cap, repeated, P5-accepted, P5-refused, P6-refused}
+use Rattle.arith.specs.Float.{f0, f1, f2, sqrt}
+use Rattle.arith.specs.Known.{f4, P7}
 use Rattle.cases.specs.Kept.{fromTo, keeps}
 
--- what a case says of: a whole number, a test, how a file is read
+-- what a case says of: a whole number, a test, how a file is read, a float
 pub data Value : Type 0 where
   whole : ℤ → Value
   truth : Bool → Value
   file : Outcome → Value
+  float : Float → Value
 
 -- a case by its number: what is found, and what the document says
 pub record Case : Type 0 where
@@ -65,8 +69,12 @@ table =
     ∷ case 5 (file (read (wordOf 0 1 0 4 0 ++ cap))) (file (Outcome.refused 5))
     -- (P6) "33rd word gives 4."
     ∷ case 6 (file (read (repeated 33 word ++ cap))) (file (Outcome.refused 4))
+    -- (P7) "Root of 4 is 2; of −0, −0; of −1, NaN."
+    ∷ case 7 (float (sqrt f4)) (float f2)
+    ∷ case 7 (float (sqrt (neg f0))) (float (neg f0))
+    ∷ case 7 (float (sqrt (neg f1))) (float nan)
     ∷ []
 
 pub P : map (λ c. c .found) table ≡ map (λ c. c .said) table
 unfolding fold all both pick Σ minℤ maxℤ sumOf move moves bend squareOf squares bends cost windowKept windowsKept coefOf slopeOf g anchorPart spanPart h line candidates leastFrom least ownPart own words values ends gap fromTo keeps
-P = rw (P5-accepted, P5-refused, P6-refused)
+P = rw (P5-accepted, P5-refused, P6-refused, P7 .0, P7 .1, P7 .2)
