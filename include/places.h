@@ -12,7 +12,9 @@
  *    5 off the tape   a number outside its range
  *    6 crossed        lower above upper
  *    7 bad list       count, order or word number
- *    9 wrong shape    as many times or prices as the block hasn't
+ *    9 wrong shape    counts or lengths that don't go together
+ *   11 not finite     a term of the objective
+ *   12 no answer      the numbers don't reach: singular, or too ill-conditioned to solve
  *   15 overrun        gap outside signed 64 bits (kept for this; no input gives it)
  */
 #ifndef PLACES_H
@@ -38,6 +40,21 @@ uint32_t places_check(const uint8_t *block, size_t block_len,
 /* IEEE 754's square root of a binary64: the nearest one to the real root, ties to even. The root of -0 is -0, of +infinity +infinity, and of a
  * NaN or anything below zero a NaN. It refuses nothing. */
 double places_sqrt(double x);
+
+/* The x that minimizes x'Kx/2 - c'x subject to E'x = b, and the multipliers of the equations, where Kx + E(multipliers) = c. K is n by n, E is n by m,
+ * column after column; n is at most 32 and m at most 8. x is written to n places and the multipliers to m.
+ *
+ * Refusals: 9 where a count is too large or a slice has not the length that the counts give it (k n * n, c and x n, e n * m, b and multipliers m);
+ * 11 where an entry of K or c, each over its variable's scale, is not finite; 12 where there is no variable, the average diagonal entry is negative
+ * or not finite, the eigenvalues were not found, or the x that was found misses an equation. 100 is no refusal of the input but an answer: there is
+ * no optimum, as the objective falls without end or no x satisfies the equations. Whatever is not 0 leaves x and multipliers as they were. */
+uint32_t places_solve_kkt(const double *k, size_t k_len,
+                          const double *c, size_t c_len,
+                          const double *e, size_t e_len,
+                          const double *b, size_t b_len,
+                          size_t n, size_t m,
+                          double *x, size_t x_len,
+                          double *multipliers, size_t multipliers_len);
 
 #ifdef __cplusplus
 }

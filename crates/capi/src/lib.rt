@@ -2,6 +2,8 @@
 // count. A result of 0 is success, any other a number of document 01's refusal table, and then nothing is written.
 ghost use mathlib.Core.Path.{_≡_};
 ghost use lib.Ieee.{binary64};
+ghost use lib.ListN.{length};
+ghost use Rattle.kkt.specs.Kkt as Kkt;
 ghost use Rattle.root.specs.Root.{root};
 ghost use Rattle.plan_check.specs.Check.{check, number, gapOr};
 ghost use Rattle.plan_check.specs.Promise.{CostBound};
@@ -21,4 +23,23 @@ pub extern "C" fn places_sqrt(x: f64) -> f64
     ensures { λ r. ⌜ r ≡ root binary64 x ⌝ }
 {
     root::sqrt(x)
+}
+
+// Minimizes ½xᵀKx − cᵀx subject to Eᵀx = b.
+#[no_mangle]
+pub extern "C" fn places_solve_kkt(
+    k: &[f64],
+    c: &[f64],
+    e: &[f64],
+    b: &[f64],
+    n: usize,
+    m: usize,
+    x: &mut [f64],
+    multipliers: &mut [f64],
+) -> u32
+    ensures { λ r. ⌜ r ≡ Kkt.number (Kkt.solveKkt n m (now (k .entry)) (now (c .entry)) (now (e .entry)) (now (b .entry)) (length (now (x .entry))) (length (now (multipliers .entry)))) ⌝ }
+    ensures { λ _. ⌜ now (x .exit) ≡ Kkt.xOr (Kkt.solveKkt n m (now (k .entry)) (now (c .entry)) (now (e .entry)) (now (b .entry)) (length (now (x .entry))) (length (now (multipliers .entry)))) (now (x .entry)) ⌝ }
+    ensures { λ _. ⌜ now (multipliers .exit) ≡ Kkt.multipliersOr (Kkt.solveKkt n m (now (k .entry)) (now (c .entry)) (now (e .entry)) (now (b .entry)) (length (now (x .entry))) (length (now (multipliers .entry)))) (now (multipliers .entry)) ⌝ }
+{
+    kkt::solve_kkt(k, c, e, b, n, m, x, multipliers)
 }
