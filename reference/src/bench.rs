@@ -3,25 +3,36 @@
 use std::hint::black_box;
 use std::time::{Duration, Instant};
 
-/// How long each side runs for in a round.
-const ROUND: Duration = Duration::from_millis(50);
-const ROUNDS: usize = 9;
+/// How long each side runs for in a round, about.
+const ROUND: Duration = Duration::from_millis(10);
+const ROUNDS: usize = 101;
 
-/// Nanoseconds of a call, over one round.
-fn round(call: &mut impl FnMut()) -> f64 {
+/// How long so many calls take.
+fn time(call: &mut impl FnMut(), calls: u32) -> Duration {
     let started = Instant::now();
-    let mut calls = 0u32;
-    while started.elapsed() < ROUND {
-        for _ in 0..8 {
-            call();
-        }
-        calls += 8;
+    for _ in 0..calls {
+        call();
     }
-    started.elapsed().as_secs_f64() * 1e9 / f64::from(calls)
+    started.elapsed()
 }
 
-/// Prints the median time of a call of each, taken in turn, and the library's over the
-/// reference's. Each call gets the inputs after one another.
+/// So many calls that they take a round, so that the clock is read twice in one.
+fn calls_of_a_round(call: &mut impl FnMut()) -> u32 {
+    let mut calls = 1;
+    while time(call, calls) < ROUND {
+        calls *= 2;
+    }
+    calls
+}
+
+/// Nanoseconds of a call, over one round.
+fn round(call: &mut impl FnMut(), calls: u32) -> f64 {
+    time(call, calls).as_secs_f64() * 1e9 / f64::from(calls)
+}
+
+/// Prints the shortest time of a call of each, taken in turn, and the library's over the
+/// reference's: what else the machine does only ever adds to a time. Each call gets the inputs
+/// after one another.
 pub fn measure<I, R, L>(
     name: &str,
     inputs: &[I],
@@ -29,24 +40,23 @@ pub fn measure<I, R, L>(
     library: impl Fn(&I) -> L,
 ) {
     let (mut first, mut second) = (inputs.iter().cycle(), inputs.iter().cycle());
-    let rounds = (0..ROUNDS).map(|_| {
-        let reference = round(&mut || {
-            black_box(first.next().map(|input| reference(black_box(input))));
-        });
-        let library = round(&mut || {
-            black_box(second.next().map(|input| library(black_box(input))));
-        });
-        (reference, library)
-    });
-    let (references, libraries): (Vec<f64>, Vec<f64>) = rounds.unzip();
-    let (reference, library) = (median(references), median(libraries));
-    println!(
-        "{name:<20} reference {reference:>12.1} ns, library {library:>12.1} ns, ratio {:.2}",
-        library / reference
+    let mut reference = || {
+        black_box(first.next().map(|input| reference(black_box(input))));
+    };
+    let mut library = || {
+        black_box(second.next().map(|input| library(black_box(input))));
+    };
+    let (calls, library_calls) = (
+        calls_of_a_round(&mut reference),
+        calls_of_a_round(&mut library),
     );
-}
-
-fn median(mut times: Vec<f64>) -> f64 {
-    times.sort_by(f64::total_cmp);
-    times[times.len() / 2]
+    let (mut shortest, mut library_shortest) = (f64::INFINITY, f64::INFINITY);
+    for _ in 0..ROUNDS {
+        shortest = shortest.min(round(&mut reference, calls));
+        library_shortest = library_shortest.min(round(&mut library, library_calls));
+    }
+    println!(
+        "{name:<20} reference {shortest:>12.1} ns, library {library_shortest:>12.1} ns, ratio {:.2}",
+        library_shortest / shortest
+    );
 }
