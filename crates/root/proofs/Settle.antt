@@ -2,7 +2,7 @@
 use mathlib.Core.Path.{_≡_, sym, ap, _∙_, subst}
 use mathlib.Core.Bool.{Bool, not}
 use Prim.Native.Nat.{ℕ, zero, suc, _+_, _-_, _*_, _/_, _%_, _^_, _≤_, _<_}
-use native.Mathlib.Nat.{le-trans, lt-of-le-of-lt, mul-assoc, mul-comm, mul-right-comm, mul-mul-mul-comm, mul-add, add-mul, mod-le, mul-le-mul, mul-le-mul-right, div-le-self}
+use native.Mathlib.Nat.{le-trans, lt-of-le-of-lt, mul-assoc, mul-comm, mul-right-comm, mul-mul-mul-comm, mul-add, add-mul, mod-le, mul-le-mul, mul-le-mul-right}
 use native.Mathlib.Numerals.{add-one}
 use native.Mathlib.Omega.{arith}
 use lib.Dec.{T, lit<}
@@ -88,9 +88,8 @@ root-fits m h =
     root-lt (lt-of-le-of-lt (i .0) (lt-of-le-of-lt b (lit< tt)))
 
 -- the pattern that `guess` starts from is no NaN's
-pub start-no-nan : (m k : ℕ) → m < 2 ^ 54 → k ≤ 1 → T (not (nanBits binary64 (m / 2 ^ k + (1022 + k) * 2 ^ 52)))
+pub start-no-nan : (m k : ℕ) → m < 2 ^ 53 → k < 2 → T (not (nanBits binary64 (m + (1022 + k) * 2 ^ 52)))
 start-no-nan m k h j =
-    let d : m / 2 ^ k ≤ m = div-le-self m (2 ^ k) in
-    let b = m / 2 ^ k + (1022 + k) * 2 ^ 52 in
+    let b = m + (1022 + k) * 2 ^ 52 in
     let l : b ≤ 2047 * 2 ^ 52 = omega arith in
     subst (λ (t : Bool). T (not t)) (sym (nanBits-above binary64 b ∙ le-ltb (2047 * 2 ^ 52) (b % 2 ^ 63) (le-trans (mod-le b (2 ^ 63)) l))) tt
