@@ -9,9 +9,11 @@ use lib.Ieee.{Float, nan}
 use Rattle.folds.specs.Fold.{over, out}
 use Rattle.folds.specs.Tab.{over-all, length-tab, length-tabM, tab-getD}
 use Rattle.folds.specs.Part.{two}
-use Rattle.arith.specs.Float.{fmul, epsilon}
-use Rattle.vector.specs.Vector.{divided, norm, copy}
-use Rattle.matrix.specs.Matrix.{trMul, mul, identity, cellDot, columnsDot, unit}
+use Rattle.arith.specs.Float.{fmul, f0, epsilon}
+use Rattle.vector.specs.Vector.{divided, addScalar, norm, copy}
+use Rattle.matrix.specs.Matrix.{identity, unit}
+use Rattle.eigen.specs.Quotients.{Finite}
+use Rattle.eigen.specs.Products.{quotients-rotated}
 use Rattle.eigen.specs.Eigen.{rotated, mean, symmetric, start, tolerance, sweeps, values, jacobi, written}
 
 whole : {x l : List Float} (o : List Float) (m : ℕ) → length l ≡ m → length o ≡ m → x ≡ over l o → x ≡ l
@@ -21,18 +23,16 @@ pub small : {n : ℕ} → n ≤ 32 → n * n ≤ 1024
 small h = mul-le-mul h h
 
 module _ (n : ℕ) (a : List Float) (scale : Float) where
-  pub started : {r₁ r₂ b₁ b₂ v₁ : List Float} (r₀ b₀ v₀ : List Float) → length r₀ ≡ n * n → length b₀ ≡ n * n → length v₀ ≡ n * n
-      → r₁ ≡ over (divided (n * n) a scale) r₀ → v₁ ≡ over (identity n) v₀ → b₁ ≡ over (trMul n n n v₁ r₁) b₀
-      → r₂ ≡ over (mul n n n b₁ v₁) r₁ → b₂ ≡ over (symmetric n r₂) b₁
-      → (r₂ ≡ rotated n (divided (n * n) a scale)) × (b₂ ≡ start n a scale) × (v₁ ≡ identity n)
-  unfolding divided identity trMul mul symmetric rotated start
-  started {r₁} {r₂} {b₁} {b₂} {v₁} r₀ b₀ v₀ lr lb lv er ev eb fr fb =
-      let d : r₁ ≡ divided (n * n) a scale = whole r₀ (n * n) (length-tab _ _) lr er in
+  pub started : {r₁ b₁ b₂ v₁ : List Float} (r₀ b₀ v₀ : List Float) → length r₀ ≡ n * n → length b₀ ≡ n * n → length v₀ ≡ n * n → Finite n a scale
+      → b₁ ≡ over (divided (n * n) a scale) b₀ → r₁ ≡ over (addScalar (n * n) b₁ f0) r₀ → v₁ ≡ over (identity n) v₀ → b₂ ≡ over (symmetric n r₁) b₁
+      → (r₁ ≡ rotated n (divided (n * n) a scale)) × (b₂ ≡ start n a scale) × (v₁ ≡ identity n)
+  unfolding divided addScalar identity symmetric start
+  started {r₁} {b₁} {b₂} {v₁} r₀ b₀ v₀ lr lb lv fin eb er ev fb =
+      let d : b₁ ≡ divided (n * n) a scale = whole b₀ (n * n) (length-tab _ _) lb eb in
+      let p : r₁ ≡ addScalar (n * n) b₁ f0 = whole r₀ (n * n) (length-tab _ _) lr er in
       let i : v₁ ≡ identity n = whole v₀ (n * n) (length-tabM n n unit) lv ev in
-      let t : b₁ ≡ trMul n n n v₁ r₁ = whole b₀ (n * n) (length-tabM n n (columnsDot n v₁ r₁)) lb eb in
-      let m : r₂ ≡ mul n n n b₁ v₁ = whole r₁ (n * n) (length-tabM n n (cellDot n n b₁ v₁)) (ap length d ∙ length-tab _ _) fr in
-      let y : b₂ ≡ symmetric n r₂ = whole b₁ (n * n) (length-tabM n n (mean n r₂)) (ap length t ∙ length-tabM n n (columnsDot n v₁ r₁)) fb in
-      let z : r₂ ≡ rotated n (divided (n * n) a scale) = m ∙ rw (t, i, d) in
+      let y : b₂ ≡ symmetric n r₁ = whole b₁ (n * n) (length-tabM n n (mean n r₁)) (ap length d ∙ length-tab _ _) fb in
+      let z : r₁ ≡ rotated n (divided (n * n) a scale) = p ∙ rw (d, quotients-rotated n a scale fin) in
       (z, y ∙ ap (symmetric n) z, i)
 
   copied : {v : List Float} (m : ℕ) → length v ≡ m → copy m v ≡ v

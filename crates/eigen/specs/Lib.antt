@@ -1,3 +1,6 @@
 pub mod Eigen
 pub mod Known
 pub mod Laws
+pub mod Neutral
+pub mod Quotients
+pub mod Products

@@ -7,6 +7,7 @@ ghost use Rattle.folds.specs.Part.{two};
 ghost use Rattle.vector.specs.Vector as Vector;
 ghost use Rattle.matrix.specs.Matrix as Matrix;
 ghost use Rattle.eigen.specs.Eigen as Eigen;
+ghost use Rattle.eigen.specs.Quotients as Quotients;
 
 // Sweeps allowed before giving up.
 const MAX_SWEEPS: usize = 100;
@@ -185,16 +186,16 @@ fn symmetric(r: &[f64], n: usize, a: &mut [f64])
     }
 }
 
-// b = what the sweeps start from, v = the identity; r is work memory.
+// b = what the sweeps start from, v = the identity, r = VᵀAV over the scale. With V the identity and finite quotients
+// these products are the quotients + 0.
 fn start(a: &[f64], n: usize, scale: f64, r: &mut [f64], b: &mut [f64], v: &mut [f64])
-    requires { ⌜ (n ≤ 32) × (n * n ≤ length (now a)) × (length (now r) ≡ n * n) × (length (now b) ≡ n * n) × (length (now v) ≡ n * n) ⌝ }
+    requires { ⌜ (n ≤ 32) × (n * n ≤ length (now a)) × (length (now r) ≡ n * n) × (length (now b) ≡ n * n) × (length (now v) ≡ n * n) × Quotients.Finite n (now a) scale ⌝ }
     ensures { λ _. ⌜ (now (r .exit) ≡ Eigen.rotated n (Vector.divided (n * n) (now (a .entry)) scale)) × (now (b .exit) ≡ Eigen.start n (now (a .entry)) scale) × (now (v .exit) ≡ Matrix.identity n) ⌝ }
 {
     let count = n * n;
-    vector::divided(a, count, scale, r);
+    vector::divided(a, count, scale, b);
+    vector::add_scalar(&b[..], count, 0.0, r);
     matrix::identity(v, n);
-    matrix::tr_mul(&v[..], n, n, &r[..], n, b);
-    matrix::mul(&b[..], n, n, &v[..], n, r);
     symmetric(&r[..], n, b);
 }
 
@@ -218,7 +219,7 @@ fn jacobi(
     values: &mut [f64],
     vectors: &mut [f64],
 ) -> bool
-    requires { ⌜ (n ≤ 32) × (n * n ≤ length (now a)) × (length (now r) ≡ n * n) × (length (now b) ≡ n * n) × (length (now v) ≡ n * n) × (n ≤ length (now values)) × (n * n ≤ length (now vectors)) ⌝ }
+    requires { ⌜ (n ≤ 32) × (n * n ≤ length (now a)) × (length (now r) ≡ n * n) × (length (now b) ≡ n * n) × (length (now v) ≡ n * n) × (n ≤ length (now values)) × (n * n ≤ length (now vectors)) × Quotients.Finite n (now a) scale ⌝ }
     ensures { λ ok. ⌜ out ok (two (now (values .exit)) (now (vectors .exit))) ≡ Eigen.written (Eigen.jacobi n (now (a .entry)) scale) (now (values .entry)) (now (vectors .entry)) ⌝ }
 {
     let count = n * n;

@@ -9,11 +9,10 @@ start-spec =
     (tie.spec
     (λ c. search kit)  -- mul-count
     (λ c κs. search kit)  -- divided-requires
+    (λ c κs. search kit)  -- add-scalar-requires
     (λ c κs. search kit)  -- identity-requires
-    (λ c κs. search kit)  -- tr-mul-requires
-    (λ c κs. search kit)  -- mul-requires
     (λ c κs. search kit)  -- symmetric-requires
     (λ c. search kit)  -- same-length
     (λ c. search kit)  -- same-length-2
     (λ c. search kit)  -- same-length-3
-    (λ c. let y = c .before .before in let m = y .before .before .before .before .before in let t = m .before .before .before .before .before .before in let i = t .before .before .before .before .before .before in let d = i .before .before .before .before in let k = d .before .before .before .before .before .before in started _ _ _ _ _ _ (k .pre .2) (k .pre .3) (k .pre .4) (d .divided .ensures) (i .identity .ensures) (t .tr-mul .ensures) (m .mul .ensures) (y .symmetric .ensures)))  -- returns
+    (λ c. let y = c .before .before in let i = y .before .before .before .before .before in let p = i .before .before .before .before in let d = p .before .before .before .before .before in let k = d .before .before .before .before .before .before in started _ _ _ _ _ _ (k .pre .2) (k .pre .3) (k .pre .4) (k .pre .5) (d .divided .ensures) (p .add-scalar .ensures) (i .identity .ensures) (y .symmetric .ensures)))  -- returns

@@ -2,6 +2,7 @@ use Rattle.folds.specs.Kit.{sym, arith, pick, kit}
 use borrow.Author.Tests.{not-true, not-false}
 use lib.Seq.{length-take-le}
 use Rattle.eigen.specs.Eigen.{symmetricEigen}
+use Rattle.eigen.specs.Quotients.{finite}
 use Rattle.eigen.proofs.Whole.{small}
 use Rattle.eigen.proofs.symmetric_eigen.Statement.{statement}
 use Rattle.eigen.proofs.symmetric_eigen.Tie as tie
@@ -35,7 +36,8 @@ symmetric-eigen-spec =
     (λ c. prefix-b c)  -- slice-aggregate-jacobi-2
     (λ c. omega (arith, small (c .before .before .before .before .before .before .before .before .before .pre .0)))  -- array-borrow-prefix-v
     (λ c. prefix-v c)  -- slice-aggregate-jacobi-3
-    (λ c κs. omega (arith, prefix-r (c .before .before .before .before), prefix-b (c .before .before .before), prefix-v (c .before .before)))  -- jacobi-requires
+    (λ c κs. let z = c .before .before .before .before .before in let m = z .before in let f = m .before .before in let h = f .before .before .before .before .pre in
+    (h .0, h .1, sym (prefix-r (c .before .before .before .before)), sym (prefix-b (c .before .before .before)), sym (prefix-v (c .before .before)), h .2, h .3, finite _ _ (f .all-finite .ensures) (not-false (f .all-finite .result) (m .before .if1 .left)) (m .amax .ensures) (z .if2 .left)))  -- jacobi-requires
     (λ c. search kit)  -- same-length-3
     (λ c. search kit)  -- same-length-4
     (λ c. let m = c .before .before .before .before .before .before .before .before .before .before .before .before .before .before in rw (← m .before .before .all-finite .ensures, not-false (m .before .before .all-finite .result) (m .before .if1 .left), ← m .amax .ensures, c .before .before .before .before .before .before .before .before .before .before .before .before .before .if2 .left) (c .before .before .before .before .before .before .before .jacobi .ensures)))  -- returns-3
