@@ -7,7 +7,8 @@ fn main() {
     if std::env::var_os("CARGO_FEATURE_LIBRARY").is_none() {
         return;
     }
-    let libraries = Path::new(env!("CARGO_MANIFEST_DIR")).join("../target/staticlib");
+    let manifest = std::env::var("CARGO_MANIFEST_DIR").expect("cargo sets it");
+    let libraries = Path::new(&manifest).join("../target/staticlib");
     println!("cargo:rustc-link-search=native={}", libraries.display());
     for name in ["capi", "probe"] {
         let library = libraries.join(format!("lib{name}.a"));

@@ -44,6 +44,7 @@ fn restored(
     solution::refused(Verdict::SingularCovariance)
 }
 
+// `Ok(None)` and what is refused pass.
 fn original(
     verdict: Verdict,
     u: [f64; 48],
