@@ -46,7 +46,7 @@ pub fn number32(s: &[u8], at: usize) -> usize
     number(s, at) + number(s, past(s, at, 2)) * 65536
 }
 
-fn pattern(s: &[u8], at: usize) -> u64 {
+pub fn number64(s: &[u8], at: usize) -> u64 {
     (number32(s, at) + number32(s, past(s, at, 4)) * 4294967296) as u64
 }
 
@@ -82,7 +82,7 @@ fn coded(s: &[u8], at: usize, t: usize) -> f64 {
         return -0.0;
     }
     if t == 255 {
-        return float_of(pattern(s, past(s, at, 1)));
+        return float_of(number64(s, past(s, at, 1)));
     }
     0.0 / 0.0
 }

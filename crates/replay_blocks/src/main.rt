@@ -1,56 +1,8 @@
 // Reads and checks the stored blocks of standard input again, in the format of docs/CASES.md, 'Blocks', and compares with the reference.
-use libc::STDIN_FILENO;
-use libc::STDOUT_FILENO;
-ghost use Prim.Native.Nat.{_≤_};
-
-// A place `by` further on in a record, whose body is at most 16,000 bytes.
-fn past(at: usize, by: usize) -> usize {
-    if at > 65536 {
-        return at;
-    }
-    if by > 65536 {
-        return at;
-    }
-    at + by
-}
-
-fn wide(b: u8) -> u64 {
-    b as u64
-}
-
-// A byte, 0 past the end.
-fn byte(s: &[u8], at: usize) -> u64 {
-    if at < s.len() {
-        return wide(s[at]);
-    }
-    0
-}
-
-fn count(s: &[u8], at: usize) -> usize
-    ensures { λ r. ⌜ r ≤ 255 ⌝ }
-{
-    (byte(s, at) % 256) as usize
-}
-
-fn u16_at(s: &[u8], at: usize) -> u64
-    ensures { λ r. ⌜ r ≤ 65535 ⌝ }
-{
-    byte(s, at) % 256 + byte(s, past(at, 1)) % 256 * 256
-}
-
-fn u32_at(s: &[u8], at: usize) -> u64
-    ensures { λ r. ⌜ r ≤ 4294967295 ⌝ }
-{
-    u16_at(s, at) + u16_at(s, past(at, 2)) * 65536
-}
-
-fn u64_at(s: &[u8], at: usize) -> u64 {
-    u32_at(s, at) + u32_at(s, past(at, 4)) * 4294967296
-}
 
 // Two's complement.
 fn i32_at(s: &[u8], at: usize) -> i32 {
-    let n = u32_at(s, at);
+    let n = replay::number32(s, at);
     if n < 2147483648 {
         return n as i32;
     }
@@ -58,7 +10,7 @@ fn i32_at(s: &[u8], at: usize) -> i32 {
 }
 
 fn i64_at(s: &[u8], at: usize) -> i64 {
-    let n = u64_at(s, at);
+    let n = replay::number64(s, at);
     if n < 9223372036854775808 {
         return n as i64;
     }
@@ -71,7 +23,7 @@ fn times_at(s: &[u8], at: usize) -> [i32; 255] {
     let mut p = at;
     for k in 0..255usize {
         times[k] = i32_at(s, p);
-        p = past(p, 4);
+        p = replay::past(s, p, 4);
     }
     times
 }
@@ -81,7 +33,7 @@ fn prices_at(s: &[u8], at: usize) -> [i64; 255] {
     let mut p = at;
     for k in 0..255usize {
         prices[k] = i64_at(s, p);
-        p = past(p, 8);
+        p = replay::past(s, p, 8);
     }
     prices
 }
@@ -96,39 +48,39 @@ struct Compared {
 fn same_check(block: &[u8], times: &[i32], prices: &[i64], s: &[u8], at: usize) -> Compared {
     let mut gap: i64 = 271828182845;
     let number = plan_check::check(block, times, prices, &mut gap);
-    let said = byte(s, at);
+    let said = replay::byte(s, at);
     if said == 0 {
-        let expected = i64_at(s, past(at, 1));
+        let expected = i64_at(s, replay::past(s, at, 1));
         if number == 0 {
             return Compared {
                 same: gap == expected,
-                at: past(at, 9),
+                at: replay::past(s, at, 9),
             };
         }
         return Compared {
             same: false,
-            at: past(at, 9),
+            at: replay::past(s, at, 9),
         };
     }
-    if number as u64 == said {
+    if number as usize == said {
         return Compared {
             same: gap == 271828182845,
-            at: past(at, 1),
+            at: replay::past(s, at, 1),
         };
     }
     Compared {
         same: false,
-        at: past(at, 1),
+        at: replay::past(s, at, 1),
     }
 }
 
 fn one_check(block: &[u8], s: &[u8], at: usize) -> Compared {
-    let t = count(s, at);
-    let times = times_at(s, past(at, 1));
-    let between = past(past(at, 1), 4 * t);
-    let p = count(s, between);
-    let prices = prices_at(s, past(between, 1));
-    let end = past(past(between, 1), 8 * p);
+    let t = replay::byte(s, at);
+    let times = times_at(s, replay::past(s, at, 1));
+    let between = replay::past(s, replay::past(s, at, 1), 4 * t);
+    let p = replay::byte(s, between);
+    let prices = prices_at(s, replay::past(s, between, 1));
+    let end = replay::past(s, replay::past(s, between, 1), 8 * p);
     same_check(block, &times[..t], &prices[..p], s, end)
 }
 
@@ -148,18 +100,18 @@ fn count_differing(block: &[u8], s: &[u8], at: usize, n: usize) -> u64 {
 
 // What a record says and how much of it differs.
 struct Replayed {
-    outcome: u64,
+    outcome: usize,
     checks: u64,
     differ: u64,
 }
 
 fn record_in(s: &[u8], block: &[u8], at: usize) -> Replayed {
-    let outcome = byte(s, at);
-    let n = count(s, past(at, 1));
-    let differ = count_differing(block, s, past(at, 2), n);
+    let outcome = replay::byte(s, at);
+    let n = replay::byte(s, replay::past(s, at, 1));
+    let differ = count_differing(block, s, replay::past(s, at, 2), n);
     let a = reader::read(block);
     let v = a.verdict;
-    if numbers::number(v) == outcome {
+    if numbers::number(v) as usize == outcome {
         return Replayed {
             outcome: outcome,
             checks: n as u64,
@@ -174,7 +126,7 @@ fn record_in(s: &[u8], block: &[u8], at: usize) -> Replayed {
 }
 
 fn record(s: &[u8]) -> Replayed {
-    let n = u16_at(s, 0) as usize;
+    let n = replay::number(s, 0);
     if s.len() < 2 {
         return Replayed {
             outcome: 0,
@@ -191,21 +143,6 @@ fn record(s: &[u8]) -> Replayed {
     }
     let e = n + 2;
     record_in(s, &s[2..e], e)
-}
-
-fn line(name: &[u8], n: u64) {
-    io::write_all(STDOUT_FILENO, name);
-    io::print_decimal(STDOUT_FILENO, n);
-    io::write_all(STDOUT_FILENO, b"\n");
-}
-
-// The next record's length, or more than a body has at the end of the list.
-fn head() -> usize {
-    let mut h = [0u8; 2];
-    if io::read_full(STDIN_FILENO, &mut h) < 2 {
-        return 65536;
-    }
-    u16_at(&h, 0) as usize
 }
 
 struct Tally {
@@ -233,14 +170,8 @@ struct Next {
 
 // The tally with the next record of the list, which is read into `body`.
 fn step(body: &mut [u8], t: Tally) -> Next {
-    let n = head();
+    let n = replay::record(body);
     if n > body.len() {
-        return Next {
-            more: false,
-            tally: t,
-        };
-    }
-    if io::read_full(STDIN_FILENO, &mut body[..n]) < n {
         return Next {
             more: false,
             tally: t,
@@ -268,8 +199,8 @@ fn main() {
             break;
         }
     }
-    line(b"blocks ", tally.blocks);
-    line(b"accepted ", tally.accepted);
-    line(b"checks ", tally.checks);
-    line(b"differences ", tally.differ);
+    replay::line(b"blocks ", tally.blocks);
+    replay::line(b"accepted ", tally.accepted);
+    replay::line(b"checks ", tally.checks);
+    replay::line(b"differences ", tally.differ);
 }
