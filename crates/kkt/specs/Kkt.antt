@@ -34,7 +34,7 @@ solveShaped n m k c e b =
     original n m e b scales columns
     (solveNoisyKkt n m (unitsK n k scales) (unitsC n c scales) (unitsE n m e scales columns) (unitsB m b columns) f0)
 
--- document 01, 'The calls': up to 32 variables and 8 equations, and each slice as long as its counts give
+-- document 01, 'Engine sizes: at most 32 originals, 8 equality columns', and each slice as long as its counts give
 unfoldable pub shaped : ℕ → ℕ → ℕ → ℕ → ℕ → ℕ → ℕ → ℕ → Bool
 shaped n m k c e b x multipliers =
     both (leb n 32) (both (leb m 8) (both (eqb k (n * n)) (both (eqb c n) (both (eqb e (n * m)) (both (eqb b m) (both (eqb x n) (eqb multipliers m)))))))
