@@ -3,7 +3,6 @@ use mathlib.Core.Path.{_≡_, sym, _∙_}
 use mathlib.Core.Bool.{Bool, false}
 use mathlib.Core.List.{List}
 use Prim.Native.Nat.{ℕ, _-_, _*_, _≤_, min}
-use native.Mathlib.Nat.{le-trans, mul-le-mul-left, mul-le-mul-right}
 use lib.ListN.{length, take, replicate}
 use lib.Ieee.{Float, nan}
 use Rattle.folds.specs.Fold.{tab, tabM, over}
@@ -16,10 +15,6 @@ use Rattle.householder.specs.Householder.{qr, qTrMul}
 use Rattle.pivoting.specs.Pivoting.{pivoting, factored}
 use Rattle.pivoting.specs.declared.Pivots.{Pivots}
 use Rattle.constraints.specs.Constraints.{applied, qTranspose, nullSpace, constraintsOf, completed, new, forward, smallestFeasible, backward, multipliers}
-
--- a product of two sizes
-pub area : {n m x y : ℕ} → n ≤ x → m ≤ y → n * m ≤ x * y
-area {n} {m} {x} {y} p q = le-trans (mul-le-mul-right m p) (mul-le-mul-left x q)
 
 pub copy-all : (n : ℕ) (a : List Float) → length a ≡ n → copy n a ≡ a
 unfolding copy

@@ -5,7 +5,7 @@ use mathlib.Core.List.{List}
 use Prim.Native.Nat.{ℕ, zero, suc, _+_, _*_}
 use lib.ListN.{length, length-set}
 use lib.Ieee.{Float, eq}
-use Rattle.folds.specs.Fold.{fold-keep, span, pick, Out, out}
+use Rattle.folds.specs.Fold.{fold-keep, pick-keep, span, Out, out}
 use Rattle.folds.specs.Tab.{length-tab, length-tabM}
 use Rattle.folds.specs.Part.{two}
 use Rattle.folds.specs.Run.{run, Pass, more, done}
@@ -14,11 +14,6 @@ use Rattle.vector.specs.Vector.{filled}
 use Rattle.matrix.specs.Matrix.{cell, unit, identity}
 use Rattle.eigen.specs.declared.Turn.{Turn}
 use Rattle.eigen.specs.Eigen.{State, turnInRow, turnColumns, rotate, sweepRow, sweep, pass, sweeps, Eigen, eigen, nothing, values, answer, tolerance, start, jacobi, symmetricEigen}
-
-pick-keep : {A : Type 0} (P : A → Type 0) (b : Bool) {x y : A} → P x → P y → P (pick b x y)
-unfolding pick
-pick-keep P true p q = p
-pick-keep P false p q = q
 
 abbrev vectorsOf : State → List Float
 vectorsOf (two a v) = v

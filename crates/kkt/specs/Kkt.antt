@@ -9,7 +9,7 @@ use Rattle.folds.specs.Fold.{pick, both}
 use Rattle.arith.specs.Float.{f0}
 use Rattle.vector.specs.Vector.{div}
 use Rattle.units.specs.Units.{checked, diagonalScales, columnScales, unitsK, unitsC, unitsE, unitsB}
-use Rattle.solution.specs.Solution.{Kkt, optimum, noOptimum, wrongShape, nonFinite, singular}
+use Rattle.solution.specs.Solution.{Kkt, optimum, noOptimum, nonFinite, singular}
 use Rattle.noisy_kkt.specs.NoisyKkt.{solveNoisyKkt}
 
 -- ---- back in the units of the caller
@@ -22,7 +22,6 @@ restored n m e b scales columns u multipliers =
 unfoldable pub original : ℕ → ℕ → List Float → List Float → List Float → List Float → Kkt → Kkt
 original n m e b scales columns (optimum u multipliers) = restored n m e b scales columns u multipliers
 original n m e b scales columns noOptimum = noOptimum
-original n m e b scales columns wrongShape = wrongShape
 original n m e b scales columns nonFinite = nonFinite
 original n m e b scales columns singular = singular
 
@@ -39,30 +38,35 @@ unfoldable pub shaped : ℕ → ℕ → ℕ → ℕ → ℕ → ℕ → ℕ → 
 shaped n m k c e b x multipliers =
     both (leb n 32) (both (leb m 8) (both (eqb k (n * n)) (both (eqb c n) (both (eqb e (n * m)) (both (eqb b m) (both (eqb x n) (eqb multipliers m)))))))
 
+-- the call's answer: its sizes refused, or what the engine answers
+pub data Answer : Type 0 where
+  wrongShape : Answer
+  engine : Kkt → Answer
+
 -- with the lengths of the slices for x and the multipliers
-unfoldable pub solveKkt : ℕ → ℕ → List Float → List Float → List Float → List Float → ℕ → ℕ → Kkt
+unfoldable pub solveKkt : ℕ → ℕ → List Float → List Float → List Float → List Float → ℕ → ℕ → Answer
 solveKkt n m k c e b x multipliers =
-    pick (shaped n m (length k) (length c) (length e) (length b) x multipliers) (solveShaped n m k c e b) wrongShape
+    pick (shaped n m (length k) (length c) (length e) (length b) x multipliers) (engine (solveShaped n m k c e b)) wrongShape
 
 -- document 01's number of an answer; 100 is `Ok(None)`
-unfoldable pub number : Kkt → ℕ
-number (optimum x multipliers) = 0
-number noOptimum = 100
+unfoldable pub number : Answer → ℕ
 number wrongShape = 9
-number nonFinite = 11
-number singular = 12
+number (engine (optimum x multipliers)) = 0
+number (engine noOptimum) = 100
+number (engine nonFinite) = 11
+number (engine singular) = 12
 
 -- what the caller's slices hold afterwards, by what they held
-unfoldable pub xOr : Kkt → List Float → List Float
-xOr (optimum x multipliers) o = x
-xOr noOptimum o = o
+unfoldable pub xOr : Answer → List Float → List Float
 xOr wrongShape o = o
-xOr nonFinite o = o
-xOr singular o = o
+xOr (engine (optimum x multipliers)) o = x
+xOr (engine noOptimum) o = o
+xOr (engine nonFinite) o = o
+xOr (engine singular) o = o
 
-unfoldable pub multipliersOr : Kkt → List Float → List Float
-multipliersOr (optimum x multipliers) o = multipliers
-multipliersOr noOptimum o = o
+unfoldable pub multipliersOr : Answer → List Float → List Float
 multipliersOr wrongShape o = o
-multipliersOr nonFinite o = o
-multipliersOr singular o = o
+multipliersOr (engine (optimum x multipliers)) o = multipliers
+multipliersOr (engine noOptimum) o = o
+multipliersOr (engine nonFinite) o = o
+multipliersOr (engine singular) o = o

@@ -4,6 +4,7 @@ ghost use Prim.Native.Nat.{_≤_, _*_};
 ghost use lib.ListN.{length, take};
 ghost use Rattle.vector.specs.Vector as Vector;
 ghost use Rattle.solution.specs.Solution.{answer, solutionOf};
+ghost use Rattle.kkt.specs.Kkt.{engine};
 ghost use Rattle.kkt.specs.Kkt as Definition;
 use solution::Solution;
 use solution::Verdict;
@@ -62,7 +63,6 @@ fn original(
     match verdict {
         Verdict::Solved => restored(u, multipliers, e, b, scales, columns, n, m),
         Verdict::NoOptimum => solution::refused(Verdict::NoOptimum),
-        Verdict::WrongShape => solution::refused(Verdict::WrongShape),
         Verdict::NonFiniteCovariance => solution::refused(Verdict::NonFiniteCovariance),
         Verdict::SingularCovariance => solution::refused(Verdict::SingularCovariance),
     }
@@ -154,9 +154,9 @@ fn write(
     multipliers: &mut [f64],
 ) -> u32
     requires { ⌜ (n ≤ 32) × (m ≤ 24) × (length (now x) ≡ n) × (length (now multipliers) ≡ m) ⌝ }
-    ensures { λ r. ⌜ r ≡ Definition.number (answer verdict (take n optimum) (take m lambda)) ⌝ }
-    ensures { λ _. ⌜ now (x .exit) ≡ Definition.xOr (answer verdict (take n optimum) (take m lambda)) (now (x .entry)) ⌝ }
-    ensures { λ _. ⌜ now (multipliers .exit) ≡ Definition.multipliersOr (answer verdict (take n optimum) (take m lambda)) (now (multipliers .entry)) ⌝ }
+    ensures { λ r. ⌜ r ≡ Definition.number (engine (answer verdict (take n optimum) (take m lambda))) ⌝ }
+    ensures { λ _. ⌜ now (x .exit) ≡ Definition.xOr (engine (answer verdict (take n optimum) (take m lambda))) (now (x .entry)) ⌝ }
+    ensures { λ _. ⌜ now (multipliers .exit) ≡ Definition.multipliersOr (engine (answer verdict (take n optimum) (take m lambda))) (now (multipliers .entry)) ⌝ }
 {
     match verdict {
         Verdict::Solved => {
@@ -165,7 +165,6 @@ fn write(
             0
         }
         Verdict::NoOptimum => 100,
-        Verdict::WrongShape => 9,
         Verdict::NonFiniteCovariance => 11,
         Verdict::SingularCovariance => 12,
     }

@@ -164,7 +164,7 @@ pub fn solve_noisy_kkt(
     m: usize,
     noise: f64,
 ) -> Solution
-    requires { ⌜ (n ≤ 32) × (m ≤ 24) × (n * n ≤ 1024) × (n * m ≤ 768) × (n * n ≤ length (now k)) × (n ≤ length (now c)) × (n * m ≤ length (now e)) × (m ≤ length (now b)) ⌝ }
+    requires { ⌜ (n ≤ 32) × (m ≤ 24) × (n * n ≤ length (now k)) × (n ≤ length (now c)) × (n * m ≤ length (now e)) × (m ≤ length (now b)) ⌝ }
     ensures { λ r. ⌜ solutionOf n m r ≡ Definition.solveNoisyKkt n m (now (k .entry)) (now (c .entry)) (now (e .entry)) (now (b .entry)) noise ⌝ }
 {
     if finite(k, c, n) {

@@ -7,7 +7,7 @@ use native.Mathlib.Omega.{arith}
 use lib.ListN.{length, set, getD, replicate}
 use lib.Seq.{getD-set-other}
 use lib.Ieee.{Float, nan, le}
-use Rattle.folds.specs.Fold.{fold, walk, tab, over, pick, out, ended, fold-keep, walk-keep}
+use Rattle.folds.specs.Fold.{fold, walk, tab, over, pick, out, ended, fold-keep, walk-keep, pick-keep}
 use Rattle.folds.specs.Part.{Two, two}
 use Rattle.folds.specs.Tab.{length-tab, over-all}
 use Rattle.arith.specs.Float.{at, f0}
@@ -37,21 +37,16 @@ FoundBelow m (Found j norm) = j < m
 FoundBelow m Nothing = Unit
 
 module _ (m j : ℕ) (h : j < m) where
-  picked : (b : Bool) (x y : Largest) → FoundBelow m x → FoundBelow m y → FoundBelow m (pick b x y)
-  unfolding pick
-  picked true x y p q = p
-  picked false x y p q = q
-
   better-below : (norm : Float) (best : Largest) → FoundBelow m best → FoundBelow m (better j norm best)
   unfolding FoundBelow better
   better-below norm Nothing p = h
-  better-below norm (Found l value) p = picked (totalLess norm value) (Found l value) (Found j norm) p h
+  better-below norm (Found l value) p = pick-keep (FoundBelow m) (totalLess norm value) {x = Found l value} {y = Found j norm} p h
 
 largest-below : (n m : ℕ) (left : List Float) (remaining : List Bool) → FoundBelow m (largestColumn n m left remaining)
 unfolding largestColumn betterOne FoundBelow
 largest-below n m left remaining =
     fold-keep (FoundBelow m) m (betterOne n left remaining) Nothing tt
-    (λ j best h p. picked m j h (remains remaining j) (better j (columnNorm n left j) best) best (better-below m j h (columnNorm n left j) best p) p)
+    (λ j best h p. pick-keep (FoundBelow m) (remains remaining j) {x = better j (columnNorm n left j) best} {y = best} (better-below m j h (columnNorm n left j) best p) p)
 
 pub found-below : (n m : ℕ) (left : List Float) (remaining : List Bool) (j : ℕ) (norm : Float) → Found j norm ≡ largestColumn n m left remaining → j < m
 unfolding FoundBelow

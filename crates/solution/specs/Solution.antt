@@ -11,21 +11,19 @@ use Rattle.scaled.specs.Scaled.{kktResidual, withinRounding}
 use Rattle.scaled.specs.declared.Rounding.{Rounding}
 use Rattle.scaled.specs.declared.Rounding.the-variants.{Overflowed, Outside, Within}
 use Rattle.solution.specs.declared.Verdict.{Verdict}
-use Rattle.solution.specs.declared.Verdict.the-variants.{Solved, NoOptimum, WrongShape, NonFiniteCovariance, SingularCovariance}
+use Rattle.solution.specs.declared.Verdict.the-variants.{Solved, NoOptimum, NonFiniteCovariance, SingularCovariance}
 use Rattle.solution.specs.declared.Solution.{Solution}
 
 -- `Ok(Some((x, multipliers)))`, `Ok(None)`, and what is refused
 pub data Kkt : Type 0 where
   optimum : (x multipliers : List Float) → Kkt
   noOptimum : Kkt
-  wrongShape : Kkt
   nonFinite : Kkt
   singular : Kkt
 
 unfoldable pub answer : Verdict → List Float → List Float → Kkt
 answer Solved x multipliers = optimum x multipliers
 answer NoOptimum x multipliers = noOptimum
-answer WrongShape x multipliers = wrongShape
 answer NonFiniteCovariance x multipliers = nonFinite
 answer SingularCovariance x multipliers = singular
 
@@ -48,7 +46,6 @@ rescaledMultipliers m multipliers scale columns = tab m (λ j. fdiv (fmul (at mu
 unfoldable pub rescaled : ℕ → Float → List Float → Kkt → Kkt
 rescaled m scale columns (optimum x multipliers) = optimum x (rescaledMultipliers m multipliers scale columns)
 rescaled m scale columns noOptimum = noOptimum
-rescaled m scale columns wrongShape = wrongShape
 rescaled m scale columns nonFinite = nonFinite
 rescaled m scale columns singular = singular
 
@@ -58,6 +55,5 @@ pub rescaled-from : {l : List Float} (verdict : Verdict) (m : ℕ) (scale : Floa
 unfolding answer rescaled
 rescaled-from Solved m scale columns x multipliers e = ap (optimum x) e
 rescaled-from NoOptimum m scale columns x multipliers e = refl
-rescaled-from WrongShape m scale columns x multipliers e = refl
 rescaled-from NonFiniteCovariance m scale columns x multipliers e = refl
 rescaled-from SingularCovariance m scale columns x multipliers e = refl

@@ -10,7 +10,6 @@ use scaled::Rounding;
 pub enum Verdict {
     Solved,
     NoOptimum,
-    WrongShape,
     NonFiniteCovariance,
     SingularCovariance,
 }

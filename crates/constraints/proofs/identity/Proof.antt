@@ -1,5 +1,5 @@
 use Rattle.folds.specs.Kit.{kit, taken-tabM}
-use Rattle.constraints.specs.Laws.{area}
+use Rattle.folds.specs.Cell.{area}
 use Rattle.matrix.specs.Matrix.{identity}
 use Rattle.constraints.proofs.identity.Statement.{statement}
 use Rattle.constraints.proofs.identity.Tie as tie

@@ -1,5 +1,5 @@
 use Rattle.folds.specs.Kit.{_≡_, _*_, _≤_, arith, length, needs, sym}
-use Rattle.constraints.specs.Laws.{area}
+use Rattle.folds.specs.Cell.{area}
 use lib.Seq.{length-take-le}
 use Rattle.constraints.specs.Constraints.{lessRange}
 use Rattle.constraints.proofs.less_range.Statement.{statement}

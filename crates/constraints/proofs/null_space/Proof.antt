@@ -1,6 +1,6 @@
 use Rattle.folds.specs.Kit.{_≡_, _-_, _*_, _≤_, arith, length, fold, needs, kit, sym, refl, pick-true, pick-false}
 use borrow.Author.Tests.{eq-eqb, ne-eqb}
-use Rattle.constraints.specs.Laws.{area}
+use Rattle.folds.specs.Cell.{area}
 use lib.Seq.{length-take-le}
 use Rattle.constraints.specs.Constraints.{nullSpace}
 use Rattle.constraints.proofs.null_space.Statement.{statement}

@@ -1,5 +1,5 @@
 use Rattle.folds.specs.Kit.{_*_, _≤_, arith, sym, _∙_}
-use Rattle.constraints.specs.Laws.{area}
+use Rattle.folds.specs.Cell.{area}
 use lib.Seq.{length-take-le}
 use Rattle.folds.specs.Tab.{take-replicate}
 use lib.Seq.{take-at}

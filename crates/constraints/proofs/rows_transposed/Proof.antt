@@ -1,5 +1,5 @@
 use Rattle.folds.specs.Kit.{_*_, _≤_, arith, kit, taken-tabM}
-use Rattle.constraints.specs.Laws.{area}
+use Rattle.folds.specs.Cell.{area}
 use Rattle.constraints.specs.Constraints.{rowsTransposed}
 use Rattle.constraints.proofs.rows_transposed.Statement.{statement}
 use Rattle.constraints.proofs.rows_transposed.Tie as tie

@@ -28,12 +28,6 @@ enum-told-4 c = search needs
 refused-requires-3 : tie.Need-refused-requires-3
 refused-requires-3 c κs = search needs
 
-enum-told-5 : tie.Need-enum-told-5
-enum-told-5 c = search needs
-
-refused-requires-4 : tie.Need-refused-requires-4
-refused-requires-4 c κs = search needs
-
 returns : tie.Need-returns
 unfolding answer original
 returns c = rw (c .before .enum-told .given .1) (c .restored .ensures)
@@ -50,9 +44,5 @@ returns-4 : tie.Need-returns-4
 unfolding solutionOf answer original
 returns-4 c = rw (c .before .enum-told4 .given .1, c .refused3 .ensures)
 
-returns-5 : tie.Need-returns-5
-unfolding solutionOf answer original
-returns-5 c = rw (c .before .enum-told5 .given .1, c .refused4 .ensures)
-
 pub original-spec : {M : Type 1} → statement M
-original-spec = tie.close (tie.spec enum-told restored-requires enum-told-2 refused-requires enum-told-3 refused-requires-2 enum-told-4 refused-requires-3 enum-told-5 refused-requires-4 returns returns-2 returns-3 returns-4 returns-5)
+original-spec = tie.close (tie.spec enum-told restored-requires enum-told-2 refused-requires enum-told-3 refused-requires-2 enum-told-4 refused-requires-3 returns returns-2 returns-3 returns-4)

@@ -1,5 +1,5 @@
 use Rattle.folds.specs.Kit.{refl, sym, _∙_, arith, needs, pick}
-use Rattle.constraints.specs.Laws.{area}
+use Rattle.folds.specs.Cell.{area}
 use Rattle.solution.specs.Solution.{solutionOf}
 use Rattle.kkt.specs.Kkt.{solveKkt, number, xOr, multipliersOr}
 use Rattle.kkt.specs.Laws.{shape}

@@ -47,7 +47,7 @@ slice-aggregate-solve-noisy-kkt-4 c = sym (length-take-le _ _ (omega arith))
 solve-noisy-kkt-requires : tie.Need-solve-noisy-kkt-requires
 solve-noisy-kkt-requires c κs =
     let p = c .before .before .before .before .before .before .before .before .before .before .before .before .before .before .before .before .before .before .before .pre in
-    (p .0, p .1, p .2, p .3, omega (arith, slice-aggregate-solve-noisy-kkt (c .before .before .before)), omega (arith, slice-aggregate-solve-noisy-kkt-2 (c .before .before)), omega (arith, slice-aggregate-solve-noisy-kkt-3 (c .before)), omega (arith, slice-aggregate-solve-noisy-kkt-4 c))
+    (p .0, p .1, omega (arith, slice-aggregate-solve-noisy-kkt (c .before .before .before)), omega (arith, slice-aggregate-solve-noisy-kkt-2 (c .before .before)), omega (arith, slice-aggregate-solve-noisy-kkt-3 (c .before)), omega (arith, slice-aggregate-solve-noisy-kkt-4 c))
 
 scales-hold : (c : tie.After-diagonal-scales) → c .before .before .before .before .before .args .n ≤ length (c .diagonal-scales .result)
 scales-hold c = omega arith

@@ -39,10 +39,6 @@ returns-4 : tie.Need-returns-4
 unfolding number xOr multipliersOr answer
 returns-4 c = rw (c .enum-told4 .given .1) (refl, (refl, refl))
 
-returns-5 : tie.Need-returns-5
-unfolding number xOr multipliersOr answer
-returns-5 c = rw (c .enum-told5 .given .1) (refl, (refl, refl))
-
 pub write-spec : {M : Type 1} → statement M
 write-spec =
     tie.close
@@ -57,11 +53,9 @@ write-spec =
     (λ c. search needs)  -- enum-told-2
     (λ c. search needs)  -- enum-told-3
     (λ c. search needs)  -- enum-told-4
-    (λ c. search needs)  -- enum-told-5
     (λ c. search needs)  -- same-length
     (λ c. search needs)  -- same-length-2
     returns
     returns-2
     returns-3
-    returns-4
-    returns-5)
+    returns-4)

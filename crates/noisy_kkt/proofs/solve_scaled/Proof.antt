@@ -1,6 +1,6 @@
 use Rattle.folds.specs.Kit.{ℕ, _≡_, _≤_, _-_, _*_, sym, _∙_, arith, length, needs}
 use Rattle.constraints.specs.Constraints.{constraintsOf}
-use Rattle.constraints.specs.Laws.{area}
+use Rattle.folds.specs.Cell.{area}
 use lib.Seq.{length-take-le, getD-take}
 use Rattle.noisy_kkt.specs.NoisyKkt.{solveScaled}
 use Rattle.noisy_kkt.proofs.solve_scaled.Statement.{statement}

@@ -1,5 +1,6 @@
 use Rattle.folds.specs.Kit.{_≡_, _*_, _≤_, arith, length, kit, sym, _∙_}
-use Rattle.constraints.specs.Laws.{area, take-zeros, new-from}
+use Rattle.folds.specs.Cell.{area}
+use Rattle.constraints.specs.Laws.{take-zeros, new-from}
 use lib.ListN.{length-append}
 use lib.Seq.{length-take-le}
 use lib.Seq.{take-append-le, take-at}
