@@ -1,6 +1,6 @@
 -- The tests of the scalars, value by value.
 use mathlib.Core.Path.{_≡_, refl, sym}
-use mathlib.Core.Bool.{Bool, true, false, not, cond, true≢false}
+use mathlib.Core.Bool.{Bool, true, false, not, cond, true≢false, Bool·not-not}
 use Prim.Native.Nat.{ℕ, zero, suc, _+_, _*_, _/_, _%_}
 use lib.Dec.{T, leb, eqb, eqb-refl}
 use lib.Ieee.{Float, nan, inf, fin, Format, binary64, prec, low, hid, ones, top, up, down, odd, ofFields, ofBits, toBits, fits, isNan, neg, lt, eq, ne, div}
@@ -21,13 +21,17 @@ unfolding div ofBits
 not-number = refl
 
 -- only NaN differs from itself
+pub eq-self : (x : Float) → eq x x ≡ not (isNan x)
+unfolding eq isNan
+eq-self nan = refl
+eq-self (inf true) = refl
+eq-self (inf false) = refl
+eq-self (fin true m e) = rw (is-true (eqb (m * up e * down e) (m * up e * down e)) (eqb-refl (m * up e * down e)))
+eq-self (fin false m e) = rw (is-true (eqb (m * up e * down e) (m * up e * down e)) (eqb-refl (m * up e * down e)))
+
 pub ne-nan : (x : Float) → ne x x ≡ isNan x
-unfolding ne isNan
-ne-nan nan = refl
-ne-nan (inf true) = refl
-ne-nan (inf false) = refl
-ne-nan (fin true m e) = rw (is-true (eqb (m * up e * down e) (m * up e * down e)) (eqb-refl (m * up e * down e)))
-ne-nan (fin false m e) = rw (is-true (eqb (m * up e * down e) (m * up e * down e)) (eqb-refl (m * up e * down e)))
+unfolding ne
+ne-nan x = rw eq-self (Bool·not-not (isNan x))
 
 pub is-nan : (x : Float) → isNan x ≡ true → x ≡ nan
 unfolding isNan
@@ -73,7 +77,8 @@ unfolding ofFields
 fields-sign f s zero t h = odd-sign (prec f) s t 0 (low f)
 fields-sign f s (suc x) t h = go (eqb (suc x) (ones f)) (eqb t 0) h
   where
-    go : (a b : Bool) → T (not (isNan (cond a (cond b (inf s) nan) (odd (prec f) s (hid f + t) x (low f))))) → negative (cond a (cond b (inf s) nan) (odd (prec f) s (hid f + t) x (low f))) ≡ s
+    go : (a b : Bool) → T (not (isNan (cond a (cond b (inf s) nan) (odd (prec f) s (hid f + t) x (low f))))) →
+        negative (cond a (cond b (inf s) nan) (odd (prec f) s (hid f + t) x (low f))) ≡ s
     go true true n = unfold negative in refl
     go true false n = absurd (unfold isNan in n)
     go false b n = odd-sign (prec f) s (hid f + t) x (low f)

@@ -1,3 +1,11 @@
 pub mod Float
 pub mod Scalar
 pub mod Known
+pub mod Compare
+pub mod Laws
+pub mod Neutral
+pub mod Quotients
+pub mod Order
+pub mod Double
+pub mod Middle
+pub mod Ends

@@ -114,11 +114,11 @@ pub fn min(a: f64, b: f64) -> f64
 pub fn total_less(a: f64, b: f64) -> bool
     ensures { λ r. ⌜ r ≡ Scalar.totalLess a b ⌝ }
 {
+    if b != b {
+        return a == a;
+    }
     if a != a {
         return false;
-    }
-    if b != b {
-        return true;
     }
     if a < b {
         return true;

@@ -7,8 +7,8 @@ pub use lib.ListN.{length, set, getD, length-set}
 pub use borrow.Author.Needs.{needs}
 unfoldable pub use Rattle.folds.specs.Fold.{fold, span, walk, pick, all, some, tab, tabM, over, both}
 pub use Rattle.folds.specs.Fold.{Out, out, folds, spans, walks, alls, somes, picks, tests, fold-turn, fold-call, fold-end, span-call, walk-call, walk-stop, pick-true, pick-false}
-pub use Rattle.folds.specs.Tab.{tab-end, tabM-end, edit-end, over-tab, over-tabM, over-edit, length-over, length-tab, length-tabM, part-tab, taken-tab, taken-tabM}
-pub use Rattle.folds.specs.Cell.{cells, cell-lt, col-end}
+pub use Rattle.folds.specs.Tab.{tab-end, over-tab, over-tabM, over-edit, length-over, length-tab, length-tabM, part-tab, taken-tab, taken-tabM}
+pub use Rattle.folds.specs.Cell.{cell-lt, col-end}
 
 pub ruleset kit = (folds, needs)
 

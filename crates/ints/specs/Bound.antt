@@ -9,11 +9,10 @@ use lib.Dec.{T, ltb, eqb, ltb→lt}
 use lib.IntN.{ℤ, pos, negsuc, negℤ, natAbs, _+ℤ_, _-ℤ_, _*ℤ_}
 use lib.Signed.{mag, leZ}
 use mir.Syntax.{Width}
-use mir.Val.{SFits, hbits, toZ, ofZ}
-use mir.Facts.{toZ-ofZ}
+use mir.Val.{SFits, hbits}
 use Rattle.folds.specs.Fold.{fold}
 use Rattle.ints.specs.Diff.{diff, split, minℤ, maxℤ}
-use Rattle.ints.specs.Sum.{Σ, at}
+use Rattle.ints.specs.Sum.{Σ, delta}
 
 infix 5 _≼_
 pub record _≼_ (z : ℤ) (n : ℕ) : Type 0 where
@@ -69,8 +68,8 @@ unfolding Σ fold
     suc-mul′ : (n a : ℕ) → suc n * a ≡ a + n * a
     suc-mul′ n a = omega arith
 
-pub at-b : (j i : ℕ) {c : ℤ} {a : ℕ} → c ≼ a → at j i c ≼ a
-at-b j i {c} {a} p = go (eqb j i)
+pub delta-b : (j i : ℕ) {c : ℤ} {a : ℕ} → c ≼ a → delta j i c ≼ a
+delta-b j i {c} {a} p = go (eqb j i)
   where
     go : (t : Bool) → cond t c (pos 0) ≼ a
     go true = p
@@ -99,11 +98,3 @@ mag-le (negsuc n) = omega arith
 -- it fits the width
 pub sfits : {w : Width} {z : ℤ} {a : ℕ} → z ≼ a → T (ltb a (2 ^ hbits w)) → SFits w z
 sfits {w} {z} {a} p t = record { sfits = lt-of-le-of-lt (le-trans (mag-le z) (p .size)) (ltb→lt a (2 ^ hbits w) t) }
-
--- and where the bound is no numeral, but below one
-pub sfits-under : {w : Width} {z : ℤ} {a : ℕ} (m : ℕ) → z ≼ a → a ≤ m → T (ltb m (2 ^ hbits w)) → SFits w z
-sfits-under m p h t = sfits (loose h p) t
-
--- a signed local holds bits: what is read back is the number, and is as small
-pub held : (w : Width) {z : ℤ} {a : ℕ} → z ≼ a → T (ltb a (2 ^ hbits w)) → toZ w (ofZ w z) ≼ a
-held w {z} {a} p t = subst (λ y. y ≼ a) (sym (toZ-ofZ (sfits {w = w} p t))) p

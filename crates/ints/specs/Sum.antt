@@ -8,7 +8,7 @@ use native.Mathlib.Numerals.{add-one}
 use mathlib.Core.Logic.{_⊎_, inl, inr}
 use lib.Dec.{eqb}
 use borrow.Author.Tests.{eq-eqb, ne-eqb}
-use lib.IntN.{ℤ, pos, negsuc, negℤ, _+ℤ_, _-ℤ_, _*ℤ_, +ℤ-idl, +ℤ-idr, zero-*ℤ, *ℤ-zero, *ℤ-comm}
+use lib.IntN.{ℤ, pos, _+ℤ_, _-ℤ_, _*ℤ_, +ℤ-idl, +ℤ-idr, zero-*ℤ, *ℤ-zero, *ℤ-comm}
 use lib.Signed.{_≤ℤ_, ≤ℤ-refl}
 use Rattle.folds.specs.Fold.{fold}
 use Rattle.ints.specs.Diff.{diff, split}
@@ -64,36 +64,49 @@ unfolding Σ fold
 Σ-zero zero = refl
 Σ-zero (suc n) = ap (λ z. z +ℤ pos 0) (Σ-zero n)
 
+-- the first n terms, and the m after them
+pub Σ-split : (n m : ℕ) (f : ℕ → ℤ) → Σ (n + m) f ≡ Σ n f +ℤ Σ m (λ k. f (n + k))
+unfolding Σ fold
+Σ-split n zero f = let e : n + 0 ≡ n = omega arith in ap (λ (k : ℕ). Σ k f) e ∙ sym (+ℤ-idr (Σ n f))
+Σ-split n (suc m) f =
+    let e : n + suc m ≡ suc (n + m) = omega arith in
+    ap (λ (k : ℕ). Σ k f) e
+    ∙ ap (λ z. z +ℤ f (n + m)) (Σ-split n m f)
+    ∙ plus-assoc (Σ n f) (Σ m (λ k. f (n + k))) (f (n + m))
+  where
+    plus-assoc : (a b c : ℤ) → (a +ℤ b) +ℤ c ≡ a +ℤ (b +ℤ c)
+    plus-assoc = split _ λ a b. split _ λ c d. split _ λ e f. simp diff (omega arith)
+
 -- the sums of a table, by its columns or by its rows
 pub Σ-swap : (n m : ℕ) (f : ℕ → ℕ → ℤ) → Σ n (λ i. Σ m (λ j. f i j)) ≡ Σ m (λ j. Σ n (λ i. f i j))
 unfolding Σ fold
 Σ-swap zero m f = sym (Σ-zero m)
 Σ-swap (suc n) m f = ap (λ z. z +ℤ Σ m (λ j. f n j)) (Σ-swap n m f) ∙ sym (Σ-plus m (λ j. Σ n (λ i. f i j)) (λ j. f n j))
 
--- c where j is i, 0 elsewhere; summed over i it is c at j
-abbrev pub at : ℕ → ℕ → ℤ → ℤ
-at j i c = cond (eqb j i) c (pos 0)
+-- Kronecker's delta, times c: c where j is i, 0 elsewhere; summed over i it is the c of j
+abbrev pub delta : ℕ → ℕ → ℤ → ℤ
+delta j i c = cond (eqb j i) c (pos 0)
 
-pub at-same : (j i : ℕ) (c : ℤ) → j ≡ i → at j i c ≡ c
-at-same j i c e = rw (eq-eqb j i e)
+pub delta-same : (j i : ℕ) (c : ℤ) → j ≡ i → delta j i c ≡ c
+delta-same j i c e = rw (eq-eqb j i e)
 
-pub at-other : (j i : ℕ) (c : ℤ) → (j ≡ i → ⊥) → at j i c ≡ pos 0
-at-other j i c h = rw (ne-eqb j i h)
+pub delta-other : (j i : ℕ) (c : ℤ) → (j ≡ i → ⊥) → delta j i c ≡ pos 0
+delta-other j i c h = rw (ne-eqb j i h)
 
-pub Σ-at : (n j : ℕ) (f : ℕ → ℤ) → j < n → Σ n (λ i. at j i (f i)) ≡ f j
+pub Σ-delta : (n j : ℕ) (f : ℕ → ℤ) → j < n → Σ n (λ i. delta j i (f i)) ≡ f j
 unfolding Σ fold
-Σ-at zero j f h = absurd (not-suc-le-zero h)
-Σ-at (suc n) j f h = go (eq-or-lt-of-le (le-of-suc-le-suc h)) (Σ-at n j f)
+Σ-delta zero j f h = absurd (not-suc-le-zero h)
+Σ-delta (suc n) j f h = go (eq-or-lt-of-le (le-of-suc-le-suc h)) (Σ-delta n j f)
   where
-    none : j ≡ n → Σ n (λ i. at j i (f i)) ≡ pos 0
-    none e = Σ-ext n (λ i. at j i (f i)) (λ i. pos 0) (λ i b. at-other j i (f i) (λ q. omega arith)) ∙ Σ-zero n
+    none : j ≡ n → Σ n (λ i. delta j i (f i)) ≡ pos 0
+    none e = Σ-ext n (λ i. delta j i (f i)) (λ i. pos 0) (λ i b. delta-other j i (f i) (λ q. omega arith)) ∙ Σ-zero n
 
-    go : (j ≡ n) ⊎ (j < n) → (j < n → Σ n (λ i. at j i (f i)) ≡ f j) → Σ n (λ i. at j i (f i)) +ℤ at j n (f n) ≡ f j
-    go (inl e) ih = ap₂ _+ℤ_ (none e) (subst (λ (m : ℕ). at j m (f m) ≡ f j) e (at-same j j (f j) refl)) ∙ +ℤ-idl (f j)
-    go (inr l) ih = ap₂ _+ℤ_ (ih l) (at-other j n (f n) (λ q. omega arith)) ∙ +ℤ-idr (f j)
+    go : (j ≡ n) ⊎ (j < n) → (j < n → Σ n (λ i. delta j i (f i)) ≡ f j) → Σ n (λ i. delta j i (f i)) +ℤ delta j n (f n) ≡ f j
+    go (inl e) ih = ap₂ _+ℤ_ (none e) (subst (λ (m : ℕ). delta j m (f m) ≡ f j) e (delta-same j j (f j) refl)) ∙ +ℤ-idl (f j)
+    go (inr l) ih = ap₂ _+ℤ_ (ih l) (delta-other j n (f n) (λ q. omega arith)) ∙ +ℤ-idr (f j)
 
-pub at-times : (j i : ℕ) (c z : ℤ) → at j i c *ℤ z ≡ at j i (c *ℤ z)
-at-times j i c z = go (eqb j i)
+pub delta-times : (j i : ℕ) (c z : ℤ) → delta j i c *ℤ z ≡ delta j i (c *ℤ z)
+delta-times j i c z = go (eqb j i)
   where
     go : (t : Bool) → cond t c (pos 0) *ℤ z ≡ cond t (c *ℤ z) (pos 0)
     go true = refl

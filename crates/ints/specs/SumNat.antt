@@ -4,12 +4,12 @@ use mathlib.Core.Logic.{_⊎_, inl, inr}
 use mathlib.Core.Bool.{Bool, true, false, cond}
 use Prim.Native.Nat.{ℕ, zero, suc, _+_, _*_, _≤_, _<_, zero-le}
 use native.Mathlib.Omega.{arith}
-use native.Mathlib.Nat.{le-trans, le-refl, le-of-eq, le-of-suc-le-suc, not-suc-le-zero, eq-or-lt-of-le}
+use native.Mathlib.Nat.{le-refl, le-of-suc-le-suc, not-suc-le-zero, eq-or-lt-of-le}
 use lib.Dec.{eqb}
-use borrow.Author.Tests.{eq-eqb, ne-eqb}
+use borrow.Author.Tests.{ne-eqb}
 use lib.IntN.{ℤ, pos, natAbs}
 use Rattle.folds.specs.Fold.{fold}
-use Rattle.ints.specs.Sum.{Σ, at}
+use Rattle.ints.specs.Sum.{Σ, delta}
 use Rattle.ints.specs.Bound.{_≼_, _+b_}
 
 unfoldable pub Σℕ : ℕ → (ℕ → ℕ) → ℕ
@@ -44,6 +44,11 @@ unfolding Σℕ fold
     go (inl e) ih = subst (λ (m : ℕ). Σℕ m a ≤ Σℕ n a + a n) (sym e) (le-refl (Σℕ n a + a n))
     go (inr l) ih = omega (arith, ih (le-of-suc-le-suc l))
 
+-- one term
+pub Σℕ-term : (n i : ℕ) (a : ℕ → ℕ) → i < n → a i ≤ Σℕ n a
+unfolding Σℕ fold
+Σℕ-term n i a h = omega (arith, Σℕ-part (suc i) n a h)
+
 pub Σℕ-plus : (n : ℕ) (a b : ℕ → ℕ) → Σℕ n (λ i. a i + b i) ≡ Σℕ n a + Σℕ n b
 unfolding Σℕ fold
 Σℕ-plus zero a b = refl
@@ -53,6 +58,11 @@ pub Σℕ-times : (k n : ℕ) (a : ℕ → ℕ) → Σℕ n (λ i. k * a i) ≡ 
 unfolding Σℕ fold
 Σℕ-times k zero a = omega arith
 Σℕ-times k (suc n) a = omega (arith, Σℕ-times k n a)
+
+pub Σℕ-by : (n : ℕ) (a : ℕ → ℕ) (k : ℕ) → Σℕ n (λ i. a i * k) ≡ Σℕ n a * k
+unfolding Σℕ fold
+Σℕ-by zero a k = omega arith
+Σℕ-by (suc n) a k = omega (arith, Σℕ-by n a k)
 
 pub Σℕ-const : (n c : ℕ) → Σℕ n (λ i. c) ≡ n * c
 unfolding Σℕ fold
@@ -67,31 +77,31 @@ unfolding Σℕ fold
     mul-nothing m = omega arith
 Σℕ-swap (suc n) m a = ap (λ (z : ℕ). z + Σℕ m (λ j. a n j)) (Σℕ-swap n m a) ∙ sym (Σℕ-plus m (λ j. Σℕ n (λ i. a i j)) (λ j. a n j))
 
-abbrev pub atℕ : ℕ → ℕ → ℕ → ℕ
-atℕ j i c = cond (eqb j i) c 0
+abbrev pub deltaℕ : ℕ → ℕ → ℕ → ℕ
+deltaℕ j i c = cond (eqb j i) c 0
 
-pub at-under : (j i : ℕ) (c : ℤ) → at j i c ≼ atℕ j i (natAbs c)
-at-under j i c = go (eqb j i)
+pub delta-under : (j i : ℕ) (c : ℤ) → delta j i c ≼ deltaℕ j i (natAbs c)
+delta-under j i c = go (eqb j i)
   where
     go : (t : Bool) → cond t c (pos 0) ≼ cond t (natAbs c) 0
     go true = record { size = le-refl (natAbs c) }
     go false = record { size = zero-le }
 
-other : (j i c : ℕ) → (j ≡ i → ⊥) → atℕ j i c ≡ 0
+other : (j i c : ℕ) → (j ≡ i → ⊥) → deltaℕ j i c ≡ 0
 other j i c h = rw (ne-eqb j i h)
 
--- the c at j, summed over all i, is at most c
-pub Σℕ-at : (n j c : ℕ) → Σℕ n (λ i. atℕ j i c) ≤ c
+-- summed over all i it is at most c
+pub Σℕ-delta : (n j c : ℕ) → Σℕ n (λ i. deltaℕ j i c) ≤ c
 unfolding Σℕ fold
-Σℕ-at zero j c = zero-le
-Σℕ-at (suc n) j c = go (lt-or n j) (Σℕ-at n j c)
+Σℕ-delta zero j c = zero-le
+Σℕ-delta (suc n) j c = go (lt-or n j) (Σℕ-delta n j c)
   where
     cases : (t : Bool) → cond t c 0 ≤ c
     cases true = le-refl c
     cases false = zero-le
 
-    none : n ≤ j → Σℕ n (λ i. atℕ j i c) ≡ 0
-    none h = Σℕ-ext n (λ i. atℕ j i c) (λ i. 0) (λ i b. other j i c (λ q. omega arith)) ∙ Σℕ-const n 0 ∙ nothing n
+    none : n ≤ j → Σℕ n (λ i. deltaℕ j i c) ≡ 0
+    none h = Σℕ-ext n (λ i. deltaℕ j i c) (λ i. 0) (λ i b. other j i c (λ q. omega arith)) ∙ Σℕ-const n 0 ∙ nothing n
       where
         nothing : (m : ℕ) → m * 0 ≡ 0
         nothing m = omega arith
@@ -105,6 +115,6 @@ unfolding Σℕ fold
         next (inl h) = inl (omega arith)
         next (inr h) = inr (omega arith)
 
-    go : (n ≤ j) ⊎ (j < n) → Σℕ n (λ i. atℕ j i c) ≤ c → Σℕ n (λ i. atℕ j i c) + atℕ j n c ≤ c
+    go : (n ≤ j) ⊎ (j < n) → Σℕ n (λ i. deltaℕ j i c) ≤ c → Σℕ n (λ i. deltaℕ j i c) + deltaℕ j n c ≤ c
     go (inl h) ih = omega (arith, none h, cases (eqb j n))
     go (inr h) ih = omega (arith, ih, other j n c (λ q. omega arith))

@@ -1,4 +1,4 @@
--- When a number q is the root of m * 2 ^ 52 to nearest, and what q * q leaves, by q's halves. Assumes nothing.
+-- When a number q is the root of m * 2 ^ 52 to nearest, and what q * q leaves, by q's halves.
 use mathlib.Core.Path.{_≡_, sym, ap, _∙_, subst}
 use mathlib.Core.Bool.{Bool, not}
 use Prim.Native.Nat.{ℕ, zero, suc, _+_, _-_, _*_, _/_, _%_, _^_, _≤_, _<_}
@@ -61,7 +61,8 @@ square B h l =
 pub leaves : (m q : ℕ)
     → q / 2 ^ 26 * (q / 2 ^ 26) ≤ m
     → 2 * (q / 2 ^ 26) * (q % 2 ^ 26) ≤ (m - q / 2 ^ 26 * (q / 2 ^ 26)) * 2 ^ 26 + 2 ^ 28
-    → ((m - q / 2 ^ 26 * (q / 2 ^ 26)) * 2 ^ 26 + 2 ^ 28 - 2 * (q / 2 ^ 26) * (q % 2 ^ 26)) * 2 ^ 26 + q * q ≡ m * 2 ^ 52 + (q % 2 ^ 26 * (q % 2 ^ 26) + 2 ^ 54)
+    → ((m - q / 2 ^ 26 * (q / 2 ^ 26)) * 2 ^ 26 + 2 ^ 28 - 2 * (q / 2 ^ 26) * (q % 2 ^ 26)) * 2 ^ 26 + q * q
+    ≡ m * 2 ^ 52 + (q % 2 ^ 26 * (q % 2 ^ 26) + 2 ^ 54)
 leaves m q a b =
     let h = q / 2 ^ 26 in
     let l = q % 2 ^ 26 in

@@ -1,6 +1,5 @@
--- `root::guess` meets its contract: its floats are no NaN where their bits are taken. Assumes nothing.
+-- `root::guess` meets its contract: its floats are no NaN where their bits are taken.
 use borrow.Author.Needs.{needs}
-use native.Mathlib.Omega.{arith}
 use Rattle.root.proofs.Settle.{start-no-nan}
 use Rattle.root.proofs.Cases.{no-nan}
 use Rattle.root.proofs.guess.Statement.{statement}
@@ -16,12 +15,10 @@ guess-spec =
     (λ c. start-no-nan (c .args .m) (c .args .k) (c .pre .0) (c .pre .1))  -- float-from-bits-x
     (λ c. search needs)  -- mul-i
     (λ c. search needs)  -- add-i
-    (λ c. search needs)  -- mul-y
-    (λ c. search needs)  -- array-read-y
-    (λ c. search needs)  -- mul-y-2
-    (λ c. search needs)  -- array-read-y-2
-    (λ c. search needs)  -- mul-y-3
-    (λ c. search needs)  -- array-read-y-3
+    (λ c κs. search needs)  -- constant-requires
+    (λ c κs. search needs)  -- linear-requires
+    (λ c κs. search needs)  -- square-requires
+    (λ c κs. search needs)  -- cube-requires
     (λ c. no-nan _ (c .if1 .taken))  -- float-to-bits-result
     (λ c. search needs)  -- add-result
     (λ c. search needs)  -- returns

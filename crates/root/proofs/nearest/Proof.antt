@@ -1,4 +1,4 @@
--- `root::nearest` meets its contract: every number fits, and what `settled` is given is what q * q leaves (`proofs/Settle.antt`). Assumes nothing.
+-- `root::nearest` meets its contract: every number fits, and what `settled` is given is what q * q leaves (`proofs/Settle.antt`).
 use borrow.Author.Needs.{needs}
 use native.Mathlib.Omega.{arith}
 use Rattle.root.proofs.Settle.{leaves, half-fits, middle-fits, low-fits}
@@ -60,7 +60,16 @@ add-settled : tie.Need-add-settled
 add-settled c = omega (arith, low-fits (c .before .before .before .before .args .q))
 
 settled-requires : tie.Need-settled-requires
-settled-requires c κs = let k = c .before .before .before .before in (k .pre .0, k .pre .1, k .pre .2, k .pre .3, omega arith, omega (arith, low-fits (k .args .q)), leaves (k .args .m) (k .args .q) (c .before .before .before .if1 .left) (c .before .if3 .left))
+settled-requires c κs =
+    let k = c .before .before .before .before in (
+      k .pre .0,
+      k .pre .1,
+      k .pre .2,
+      k .pre .3,
+      omega arith,
+      omega (arith, low-fits (k .args .q)),
+      leaves (k .args .m) (k .args .q) (c .before .before .before .if1 .left) (c .before .if3 .left),
+    )
 
 returns-5 : tie.Need-returns-5
 returns-5 c = search needs
@@ -68,4 +77,5 @@ returns-5 c = search needs
 pub nearest-spec : {M : Type 1} → statement M
 nearest-spec =
     tie.close
-    (tie.spec mul-if1 rounded-requires returns mul-d sub-d rounded-requires-2 returns-2 mul-t add-t mul-u mul-u-2 rounded-requires-3 returns-3 rounded-requires-4 returns-4 mul-settled mul-settled-2 add-settled settled-requires returns-5)
+    (tie.spec mul-if1 rounded-requires returns mul-d sub-d rounded-requires-2 returns-2 mul-t add-t mul-u mul-u-2 rounded-requires-3 returns-3
+    rounded-requires-4 returns-4 mul-settled mul-settled-2 add-settled settled-requires returns-5)

@@ -1,4 +1,4 @@
--- `root::rounded` meets its contract: the 54 digits and one fit. Assumes nothing.
+-- `root::rounded` meets its contract: the 54 digits and one fit.
 use borrow.Author.Needs.{needs}
 use native.Mathlib.Omega.{arith}
 use Prim.Native.Nat.{_<_, _^_}

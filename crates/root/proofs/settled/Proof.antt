@@ -1,4 +1,4 @@
--- `root::settled` meets its contract, by `proofs/Settle.antt`. Assumes nothing.
+-- `root::settled` meets its contract, by `proofs/Settle.antt`.
 use borrow.Author.Needs.{needs}
 use native.Mathlib.Omega.{arith}
 use Rattle.root.proofs.Settle.{same, above, below}
@@ -59,4 +59,5 @@ returns-5 c = same _ _ _ _ (c .before .before .pre .6) (omega arith) (c .before 
 pub settled-spec : {M : Type 1} → statement M
 settled-spec =
     tie.close
-    (tie.spec add-if1 mul-if2 add-if2 add-if2-2 add-result returns rounded-requires returns-2 add-if3 add-if4 mul-if4 add-if4-2 sub-result returns-3 rounded-requires-2 returns-4 returns-5)
+    (tie.spec add-if1 mul-if2 add-if2 add-if2-2 add-result returns rounded-requires returns-2 add-if3 add-if4 mul-if4 add-if4-2 sub-result
+    returns-3 rounded-requires-2 returns-4 returns-5)

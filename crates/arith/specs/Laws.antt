@@ -1,0 +1,265 @@
+-- What the scalars' definitions tell.
+use mathlib.Core.Path.{_≡_, refl, sym, _∙_}
+use mathlib.Core.Bool.{Bool, true, false, not}
+use mathlib.Core.Logic.{_⊎_, inl, inr, ⊎-elim}
+use Prim.Native.Nat.{ℕ}
+use borrow.Author.Tests.{not-true}
+use lib.IntN.{ℤ}
+use lib.Ieee.{Float, nan, inf, fin, isNan, neg, lt, eq}
+use Rattle.folds.specs.Fold.{pick, pick-keep, pick-by, both, both-yes, both-true, false-true, false-of}
+use Rattle.arith.specs.Float.{fneg}
+use Rattle.arith.specs.Scalar.{isFinite, isInfinite, negative, abs, clamp, max, min, totalLess}
+use Rattle.arith.specs.Compare.{lt-irrefl, lt-asym, lt-passes, lt-number, nan-before, nan-after, eq-not, eq-lt, eq-number, eq-trans, lt-passes-back}
+
+-- ---- finite values
+pub fin-finite : (s : Bool) (m : ℕ) (e : ℤ) → isFinite (fin s m e) ≡ true
+unfolding isFinite
+fin-finite s m e = refl
+
+pub inf-finite : (s : Bool) → isFinite (inf s) ≡ false
+unfolding isFinite
+inf-finite s = refl
+
+pub nan-finite : isFinite nan ≡ false
+unfolding isFinite
+nan-finite = refl
+
+pub finite-by : (P : Float → Type 0) → ((s : Bool) (m : ℕ) (e : ℤ) → P (fin s m e)) → (x : Float) → isFinite x ≡ true → P x
+unfolding isFinite
+finite-by P f nan h = absurd (false-true h)
+finite-by P f (inf s) h = absurd (false-true h)
+finite-by P f (fin s m e) h = f s m e
+
+pub finite-number : (x : Float) → isFinite x ≡ true → isNan x ≡ false
+unfolding isNan
+finite-number = finite-by (λ x. isNan x ≡ false) (λ s m e. refl)
+
+pub finite-bounded : (x : Float) → isFinite x ≡ true → isInfinite x ≡ false
+unfolding isInfinite
+finite-bounded = finite-by (λ x. isInfinite x ≡ false) (λ s m e. refl)
+
+pub infinite-number : (x : Float) → isInfinite x ≡ true → isNan x ≡ false
+unfolding isInfinite isNan
+infinite-number nan h = absurd (false-true h)
+infinite-number (inf s) h = refl
+infinite-number (fin s m e) h = refl
+
+pub number-finite : (x : Float) → isNan x ≡ false → isInfinite x ≡ false → isFinite x ≡ true
+unfolding isFinite isInfinite isNan
+number-finite nan h k = absurd (false-true (sym h))
+number-finite (inf s) h k = absurd (false-true (sym k))
+number-finite (fin s m e) h k = refl
+
+-- ---- the sign and the absolute value
+pub abs-finite : (x : Float) → isFinite (abs x) ≡ isFinite x
+unfolding abs isFinite
+abs-finite nan = refl
+abs-finite (inf s) = refl
+abs-finite (fin s m e) = refl
+
+pub abs-infinite : (x : Float) → isInfinite (abs x) ≡ isInfinite x
+unfolding abs isInfinite
+abs-infinite nan = refl
+abs-infinite (inf s) = refl
+abs-infinite (fin s m e) = refl
+
+pub abs-nan : (x : Float) → isNan (abs x) ≡ isNan x
+unfolding abs isNan
+abs-nan nan = refl
+abs-nan (inf s) = refl
+abs-nan (fin s m e) = refl
+
+pub abs-sign : (x : Float) → negative (abs x) ≡ false
+unfolding abs negative
+abs-sign nan = refl
+abs-sign (inf s) = refl
+abs-sign (fin s m e) = refl
+
+pub abs-neg : (x : Float) → abs (fneg x) ≡ abs x
+unfolding abs neg
+abs-neg nan = refl
+abs-neg (inf s) = refl
+abs-neg (fin s m e) = refl
+
+pub neg-finite : (x : Float) → isFinite (fneg x) ≡ isFinite x
+unfolding neg isFinite
+neg-finite nan = refl
+neg-finite (inf s) = refl
+neg-finite (fin s m e) = refl
+
+pub neg-sign : (x : Float) → isNan x ≡ false → negative (fneg x) ≡ not (negative x)
+unfolding neg negative isNan
+neg-sign nan h = absurd (false-true (sym h))
+neg-sign (inf s) h = refl
+neg-sign (fin s m e) h = refl
+
+-- ---- the larger and the smaller
+module _ (P : Float → Type 0) (a b : Float) (p : P a) (q : P b) where
+  pub max-keep : P (max a b)
+  unfolding max
+  max-keep = pick-keep P (isNan a) q (pick-keep P (lt a b) q p)
+
+  pub min-keep : P (min a b)
+  unfolding min
+  min-keep = pick-keep P (isNan a) q (pick-keep P (lt b a) q p)
+
+module _ (a b : Float) where
+  pub max-finite : isFinite a ≡ true → isFinite b ≡ true → isFinite (max a b) ≡ true
+  max-finite p q = max-keep (λ x. isFinite x ≡ true) a b p q
+
+  pub min-finite : isFinite a ≡ true → isFinite b ≡ true → isFinite (min a b) ≡ true
+  min-finite p q = min-keep (λ x. isFinite x ≡ true) a b p q
+
+  -- a NaN gives way
+  pub max-nan-first : isNan a ≡ true → max a b ≡ b
+  unfolding max pick
+  max-nan-first h = rw h
+
+  pub max-nan-second : isNan a ≡ false → isNan b ≡ true → max a b ≡ a
+  unfolding max pick
+  max-nan-second h k = rw (h, nan-after a b k)
+
+  pub max-first : isNan a ≡ false → lt a b ≡ false → max a b ≡ a
+  unfolding max pick
+  max-first h k = rw (h, k)
+
+  pub max-second : lt a b ≡ true → max a b ≡ b
+  unfolding max pick
+  max-second h = rw (lt-number a b h .0, h)
+
+  -- neither is above the larger or below the smaller
+  pub max-from-first : lt (max a b) a ≡ false
+  unfolding max
+  max-from-first =
+      pick-by (λ x. lt x a ≡ false) (isNan a) (λ h. nan-after b a h)
+      (λ _. pick-by (λ x. lt x a ≡ false) (lt a b) (λ h. lt-asym a b h) (λ _. lt-irrefl a))
+
+  pub max-from-second : lt (max a b) b ≡ false
+  unfolding max
+  max-from-second =
+      pick-by (λ x. lt x b ≡ false) (isNan a) (λ _. lt-irrefl b) (λ _. pick-by (λ x. lt x b ≡ false) (lt a b) (λ _. lt-irrefl b) (λ h. h))
+
+  pub min-to-first : lt a (min a b) ≡ false
+  unfolding min
+  min-to-first =
+      pick-by (λ x. lt a x ≡ false) (isNan a) (λ h. nan-before a b h)
+      (λ _. pick-by (λ x. lt a x ≡ false) (lt b a) (λ h. lt-asym b a h) (λ _. lt-irrefl a))
+
+  pub min-to-second : lt b (min a b) ≡ false
+  unfolding min
+  min-to-second =
+      pick-by (λ x. lt b x ≡ false) (isNan a) (λ _. lt-irrefl b) (λ _. pick-by (λ x. lt b x ≡ false) (lt b a) (λ _. lt-irrefl b) (λ h. h))
+
+-- ---- held between two
+module _ (x lo hi : Float) where
+  pub clamp-keep : (P : Float → Type 0) → P x → P lo → P hi → P (clamp x lo hi)
+  unfolding clamp
+  clamp-keep P p q r = pick-keep P (lt x lo) q (pick-keep P (lt hi x) r p)
+
+  pub clamp-low : lt x lo ≡ true → clamp x lo hi ≡ lo
+  unfolding clamp pick
+  clamp-low h = rw h
+
+  pub clamp-high : lt x lo ≡ false → lt hi x ≡ true → clamp x lo hi ≡ hi
+  unfolding clamp pick
+  clamp-high h k = rw (h, k)
+
+  pub clamp-inside : lt x lo ≡ false → lt hi x ≡ false → clamp x lo hi ≡ x
+  unfolding clamp pick
+  clamp-inside h k = rw (h, k)
+
+  -- of ends that are not crossed
+  module _ (h : lt hi lo ≡ false) where
+    pub clamp-from : lt (clamp x lo hi) lo ≡ false
+    unfolding clamp
+    clamp-from =
+        pick-by (λ y. lt y lo ≡ false) (lt x lo) (λ _. lt-irrefl lo) (λ k. pick-by (λ y. lt y lo ≡ false) (lt hi x) (λ _. h) (λ _. k))
+
+    pub clamp-to : lt hi (clamp x lo hi) ≡ false
+    unfolding clamp
+    clamp-to =
+        pick-by (λ y. lt hi y ≡ false) (lt x lo) (λ _. h) (λ _. pick-by (λ y. lt hi y ≡ false) (lt hi x) (λ _. lt-irrefl hi) (λ k. k))
+
+-- ---- the total order
+module _ (a b : Float) where
+  pub total-nan : isNan a ≡ true → totalLess a b ≡ false
+  unfolding totalLess pick
+  total-nan h = rw h
+
+  pub total-last : isNan a ≡ false → isNan b ≡ true → totalLess a b ≡ true
+  unfolding totalLess pick
+  total-last h k = rw (h, k)
+
+  pub total-lt : lt a b ≡ true → totalLess a b ≡ true
+  unfolding totalLess pick
+  total-lt h = let n = lt-number a b h in rw (n .0, n .1, h)
+
+  -- -0 is before +0
+  pub total-zero : eq a b ≡ true → negative a ≡ true → negative b ≡ false → totalLess a b ≡ true
+  unfolding totalLess pick
+  total-zero h p q =
+      let n = eq-number a b h in
+      rw (n .0, n .1, eq-lt a b h .0) (both-yes h (both-yes p (rw q)))
+
+  -- what it tells of b, where b is a number
+  pub total-told : totalLess a b ≡ true → isNan b ≡ false → (lt a b ≡ true) ⊎ ((eq a b ≡ true) × (negative a ≡ true) × (negative b ≡ false))
+  unfolding totalLess
+  total-told h n = go (isNan a) (lt a b) refl (rw n at h)
+    where
+      signs : both (eq a b) (both (negative a) (not (negative b))) ≡ true → (eq a b ≡ true) × (negative a ≡ true) × (negative b ≡ false)
+      signs e =
+          let p = both-true (eq a b) _ e in
+          let q = both-true (negative a) _ (p .1) in
+          (p .0, q .0, not-true (negative b) (q .1))
+
+      go : (c d : Bool) → lt a b ≡ d → pick c false (pick false true (pick d true (both (eq a b) (both (negative a) (not (negative b)))))) ≡ true →
+          (lt a b ≡ true) ⊎ ((eq a b ≡ true) × (negative a ≡ true) × (negative b ≡ false))
+      go true d l e = absurd (false-true (unfold pick in e))
+      go false true l e = inl l
+      go false false l e = inr (signs (unfold pick in e))
+
+  pub total-number : totalLess a b ≡ true → isNan a ≡ false
+  total-number h = false-of (isNan a) (λ e. false-true (sym (total-nan e) ∙ h))
+
+  pub total-not : totalLess a b ≡ false → isNan a ≡ false → (isNan b ≡ false) × (lt a b ≡ false)
+  total-not h n =
+      (false-of (isNan b) (λ e. false-true (sym h ∙ total-last n e)), false-of (lt a b) (λ e. false-true (sym h ∙ total-lt e)))
+
+pub total-asym : (a b : Float) → totalLess a b ≡ true → totalLess b a ≡ false
+total-asym a b h = false-of (totalLess b a) (λ k. ⊎-elim (less k) (equal k) (total-told a b h (total-number b a k)))
+  where
+    back : totalLess b a ≡ true → (lt b a ≡ true) ⊎ ((eq b a ≡ true) × (negative b ≡ true) × (negative a ≡ false))
+    back k = total-told b a k (total-number a b h)
+
+    less : totalLess b a ≡ true → lt a b ≡ true → ⊥
+    less k l = ⊎-elim (λ (g : lt b a ≡ true). false-true (sym (lt-asym a b l) ∙ g)) (λ g. false-true (sym (eq-lt b a (g .0) .1) ∙ l)) (back k)
+
+    equal : totalLess b a ≡ true → (eq a b ≡ true) × (negative a ≡ true) × (negative b ≡ false) → ⊥
+    equal k l = ⊎-elim (λ (g : lt b a ≡ true). false-true (sym (eq-lt a b (l .0) .1) ∙ g)) (λ g. false-true (sym (l .2) ∙ g .1)) (back k)
+
+-- a is before b, and c is not
+pub total-passes : (a b c : Float) → totalLess a b ≡ true → totalLess c b ≡ false → totalLess a c ≡ true
+total-passes a b c h k = go (isNan c) refl
+  where
+    i : isNan a ≡ false
+    i = total-number a b h
+
+    equal : isNan c ≡ false → isNan b ≡ false → lt c b ≡ false → eq a b ≡ true → negative a ≡ true → negative b ≡ false → (d : Bool) → lt b c ≡ d →
+        totalLess a c ≡ true
+    equal j n l e p q true g = total-lt a c (lt-passes-back a b c i g (eq-lt a b e .1))
+    equal j n l e p q false g =
+        total-zero a c (eq-trans a b c e (eq-not b c n j g l)) p
+        (false-of (negative c) (λ z. false-true (sym k ∙ total-zero c b (eq-not c b j n l g) z q)))
+
+    number : isNan c ≡ false → totalLess a c ≡ true
+    number j =
+        let w = total-not c b k j in
+        ⊎-elim (λ (l : lt a b ≡ true). total-lt a c (lt-passes a b c j l (w .1))) (λ l. equal j (w .0) (w .1) (l .0) (l .1) (l .2) (lt b c) refl)
+        (total-told a b h (w .0))
+
+    go : (d : Bool) → isNan c ≡ d → totalLess a c ≡ true
+    go true e = total-last a c i e
+    go false e = number e
+
+pub total-through : (a b c : Float) → totalLess a b ≡ true → totalLess b c ≡ true → totalLess a c ≡ true
+total-through a b c h k = total-passes a b c h (total-asym b c k)
