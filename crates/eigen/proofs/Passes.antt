@@ -22,7 +22,8 @@ module _ {r : Out State} (n i : ℕ) (t : Float) where
   unfolding Left
   spent s h e = run-spent (λ k. pass n t) (λ k z. out false z) 100 i s h ∙ e
 
-  module _ {o : Float} {b : Bool} (a v : List Float) (under : i < 100) (sum : o ≡ offDiagonal n a) (test : b ≡ isNan o) (left : Left n t i (two a v) ≡ r) where
+  module _ {o : Float} {b : Bool} (a v : List Float) (under : i < 100) (sum : o ≡ offDiagonal n a) (test : b ≡ isNan o)
+      (left : Left n t i (two a v) ≡ r) where
     pub broken : b ≡ true → out false (two a v) ≡ r
     unfolding Left pass pick
     broken h = run-done (λ k. pass n t) (λ k z. out false z) 100 i (two a v) under (rw (← sum, ← test, h)) ∙ left

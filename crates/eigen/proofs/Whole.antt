@@ -1,52 +1,65 @@
--- The work lists have as many elements as the matrix, so what is written over one is all of it. And from there to the answer.
+-- Each list has as many elements as the matrix, so what is written over one is all of it. And from there to the answer.
 use mathlib.Core.Path.{_≡_, sym, ap, _∙_}
 use mathlib.Core.Bool.{Bool, true, false}
 use mathlib.Core.List.{List}
-use Prim.Native.Nat.{ℕ, _*_, _≤_}
-use native.Mathlib.Nat.{mul-le-mul}
+use Prim.Native.Nat.{ℕ, _*_}
 use lib.ListN.{length}
-use lib.Ieee.{Float, nan}
-use Rattle.folds.specs.Fold.{over, out}
-use Rattle.folds.specs.Tab.{over-all, length-tab, length-tabM, tab-getD}
+use lib.Ieee.{Float, eq}
+use Rattle.folds.specs.Fold.{over, out, pick}
+use Rattle.folds.specs.Tab.{over-whole}
 use Rattle.folds.specs.Part.{two}
 use Rattle.arith.specs.Float.{fmul, f0, epsilon}
-use Rattle.vector.specs.Vector.{divided, addScalar, norm, copy}
-use Rattle.matrix.specs.Matrix.{identity, unit}
-use Rattle.eigen.specs.Quotients.{Finite}
-use Rattle.eigen.specs.Products.{quotients-rotated}
-use Rattle.eigen.specs.Eigen.{rotated, mean, symmetric, start, tolerance, sweeps, values, jacobi, written}
-
-whole : {x l : List Float} (o : List Float) (m : ℕ) → length l ≡ m → length o ≡ m → x ≡ over l o → x ≡ l
-whole {x} {l} o m p q e = e ∙ over-all l o (p ∙ sym q)
-
-pub small : {n : ℕ} → n ≤ 32 → n * n ≤ 1024
-small h = mul-le-mul h h
+use Rattle.vector.specs.Vector.{norm, amax, allFinite, divided, addScalar, filled}
+use Rattle.vector.specs.Laws.{length-divided, length-addScalar, length-filled}
+use Rattle.matrix.specs.Matrix.{identity}
+use Rattle.matrix.specs.Laws.{length-identity}
+use Rattle.eigen.specs.Products.{Finite, finite, quotients-rotated}
+use Rattle.eigen.specs.Laws.{length-symmetric, length-values, given-eigen, given-nothing}
+use Rattle.eigen.specs.Eigen.{symmetric, start, tolerance, sweeps, values, Eigen, given, jacobi, symmetricEigen}
 
 module _ (n : ℕ) (a : List Float) (scale : Float) where
-  pub started : {r₁ b₁ b₂ v₁ : List Float} (r₀ b₀ v₀ : List Float) → length r₀ ≡ n * n → length b₀ ≡ n * n → length v₀ ≡ n * n → Finite n a scale
-      → b₁ ≡ over (divided (n * n) a scale) b₀ → r₁ ≡ over (addScalar (n * n) b₁ f0) r₀ → v₁ ≡ over (identity n) v₀ → b₂ ≡ over (symmetric n r₁) b₁
-      → (r₁ ≡ rotated n (divided (n * n) a scale)) × (b₂ ≡ start n a scale) × (v₁ ≡ identity n)
-  unfolding divided addScalar identity symmetric start
-  started {r₁} {b₁} {b₂} {v₁} r₀ b₀ v₀ lr lb lv fin eb er ev fb =
-      let d : b₁ ≡ divided (n * n) a scale = whole b₀ (n * n) (length-tab _ _) lb eb in
-      let p : r₁ ≡ addScalar (n * n) b₁ f0 = whole r₀ (n * n) (length-tab _ _) lr er in
-      let i : v₁ ≡ identity n = whole v₀ (n * n) (length-tabM n n unit) lv ev in
-      let y : b₂ ≡ symmetric n r₁ = whole b₁ (n * n) (length-tabM n n (mean n r₁)) (ap length d ∙ length-tab _ _) fb in
-      let z : r₁ ≡ rotated n (divided (n * n) a scale) = p ∙ rw (d, quotients-rotated n a scale fin) in
-      (z, y ∙ ap (symmetric n) z, i)
+  pub started : {a₁ a₂ r₁ v₁ : List Float} {k : ℕ} (r₀ v₀ : List Float) → length a ≡ n * n → length r₀ ≡ n * n → length v₀ ≡ n * n → k ≡ length a →
+      Finite n a scale
+      → a₁ ≡ over (divided k a scale) a → r₁ ≡ over (addScalar k a₁ f0) r₀ → v₁ ≡ over (identity n) v₀ → a₂ ≡ over (symmetric n r₁) a₁
+      → (a₂ ≡ start n a scale) × (v₁ ≡ identity n)
+  unfolding start
+  started {a₁} {a₂} {r₁} {v₁} {k} r₀ v₀ la lr lv e fin ea er ev es =
+      let z : k ≡ n * n = e ∙ la in
+      let d : a₁ ≡ divided (n * n) a scale = over-whole (n * n) a (length-divided (n * n) a scale) la (rw z at ea) in
+      let p : r₁ ≡ addScalar (n * n) a₁ f0 = over-whole (n * n) r₀ (length-addScalar (n * n) a₁ f0) lr (rw z at er) in
+      let y : a₂ ≡ symmetric n r₁ = over-whole (n * n) a₁ (length-symmetric n r₁) (ap length d ∙ length-divided (n * n) a scale) es in
+      (y ∙ ap (symmetric n) (p ∙ rw (d, quotients-rotated n a scale fin)), over-whole (n * n) v₀ (length-identity n) lv ev)
 
-  copied : {v : List Float} (m : ℕ) → length v ≡ m → copy m v ≡ v
-  unfolding copy
-  copied {v} m e = rw (← e) (sym (tab-getD nan v))
+  -- where the sweeps end in a₂ and v₂
+  module _ {a₁ v₁ a₂ v₂ : List Float} {ok : Bool} {k : ℕ} {size : Float} (ea : a₁ ≡ start n a scale) (ev : v₁ ≡ identity n) (ek : k ≡ n * n)
+      (es : size ≡ norm k a₁)
+      (ew : out ok (two a₂ v₂) ≡ sweeps n (fmul epsilon size) (two a₁ v₁)) where
+    pub found : {l : List Float} (o : List Float) → ok ≡ true → length o ≡ n → l ≡ over (values n a₂ scale) o → given true l v₂ ≡ jacobi n a scale
+    unfolding jacobi tolerance given
+    found o h lo el = rw (← ea, ← ev, ← rw ek at es, ← ew, h, over-whole n o (length-values n a₂ scale) lo el)
 
-  -- where the sweeps end in b₂ and v₂
-  module _ {b₁ v₁ b₂ v₂ : List Float} (o p : List Float) {ok : Bool} {size : Float} (eb : b₁ ≡ start n a scale) (ev : v₁ ≡ identity n) (es : size ≡ norm (n * n) b₁)
-      (ew : out ok (two b₂ v₂) ≡ sweeps n (fmul epsilon size) (two b₁ v₁)) where
-    pub found : {l q : List Float} → ok ≡ true → length v₂ ≡ n * n → l ≡ over (values n b₂ scale) o → q ≡ over (copy (n * n) v₂) p
-        → out true (two l q) ≡ written (jacobi n a scale) o p
-    unfolding jacobi tolerance
-    found h len el eq = rw (← eb, ← ev, ← es, ← ew, h, el, eq, copied (n * n) len)
+    pub lost : (l v : List Float) → ok ≡ false → given false l v ≡ jacobi n a scale
+    unfolding jacobi tolerance given
+    lost l v h = rw (← ea, ← ev, ← rw ek at es, ← ew, h)
 
-    pub lost : ok ≡ false → out false (two o p) ≡ written (jacobi n a scale) o p
-    unfolding jacobi tolerance
-    lost h = rw (← eb, ← ev, ← es, ← ew, h)
+-- ---- the tests before it
+module _ {b : Bool} (n : ℕ) (a : List Float) (len : length a ≡ n * n) (fin : b ≡ allFinite (length a) a) where
+  pub refused : (l v : List Float) → b ≡ false → given false l v ≡ symmetricEigen n a
+  unfolding symmetricEigen pick
+  refused l v f = rw (← rw len at fin, f) (given-nothing l v)
+
+  module _ {scale : Float} (yes : b ≡ true) (largest : scale ≡ amax (length a) a) where
+    pub of-zero : {l v : List Float} (o p : List Float) → eq scale f0 ≡ true → length o ≡ n → length p ≡ n * n → l ≡ over (filled n f0) o →
+        v ≡ over (identity n) p →
+        given true l v ≡ symmetricEigen n a
+    unfolding symmetricEigen pick
+    of-zero {l} {v} o p z lo lp el ev =
+        rw (← rw len at fin, yes, ← rw len at largest, z, over-whole n o (length-filled n f0) lo el, over-whole (n * n) p (length-identity n) lp ev)
+        (given-eigen (filled n f0) (identity n))
+
+    pub divisible : eq scale f0 ≡ false → Finite n a scale
+    divisible z = finite n a (rw len at fin) yes (rw len at largest) z
+
+    pub swept : {e : Eigen} → eq scale f0 ≡ false → e ≡ jacobi n a scale → e ≡ symmetricEigen n a
+    unfolding symmetricEigen pick
+    swept z g = rw (← rw len at fin, yes, ← rw len at largest, z) g

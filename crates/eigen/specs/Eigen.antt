@@ -1,9 +1,9 @@
 -- eigen.rs: the symmetric eigendecomposition by the cyclic Jacobi method, from the identity.
 use Prim.Native.Nat.{ℕ, _+_, _*_}
-use mathlib.Core.Bool.{true, false, not}
+use mathlib.Core.Bool.{Bool, true, false, not}
 use mathlib.Core.List.{List}
 use lib.Ieee.{Float, binary64, eq, lt, le, isNan, ofBits}
-use Rattle.folds.specs.Fold.{fold, span, pick, tab, tabM, over, Out, out}
+use Rattle.folds.specs.Fold.{fold, span, pick, tab, tabM, Out, out}
 use Rattle.folds.specs.Part.{Two, two}
 use Rattle.folds.specs.Run.{run, Pass, more, done}
 use Rattle.folds.specs.Chosen.{chosen}
@@ -34,12 +34,14 @@ angle n p q a = turnBy (tangent (fdiv (fsub (cell a n q q) (cell a n p p)) (fmul
 -- columns p and q in row k
 unfoldable pub turnInRow : ℕ → ℕ → ℕ → Turn → ℕ → List Float → List Float
 turnInRow n p q t k a =
-    put (put a n k p (fsub (fmul (t .c) (cell a n k p)) (fmul (t .s) (cell a n k q)))) n k q (fadd (fmul (t .s) (cell a n k p)) (fmul (t .c) (cell a n k q)))
+    put (put a n k p (fsub (fmul (t .c) (cell a n k p)) (fmul (t .s) (cell a n k q)))) n k q
+    (fadd (fmul (t .s) (cell a n k p)) (fmul (t .c) (cell a n k q)))
 
 -- rows p and q in column k
 unfoldable pub turnInColumn : ℕ → ℕ → ℕ → Turn → ℕ → List Float → List Float
 turnInColumn n p q t k a =
-    put (put a n p k (fsub (fmul (t .c) (cell a n p k)) (fmul (t .s) (cell a n q k)))) n q k (fadd (fmul (t .s) (cell a n p k)) (fmul (t .c) (cell a n q k)))
+    put (put a n p k (fsub (fmul (t .c) (cell a n p k)) (fmul (t .s) (cell a n q k)))) n q k
+    (fadd (fmul (t .s) (cell a n p k)) (fmul (t .c) (cell a n q k)))
 
 unfoldable pub turnColumns : ℕ → ℕ → ℕ → Turn → List Float → List Float
 turnColumns n p q t a = fold n (turnInRow n p q t) a
@@ -127,10 +129,10 @@ symmetricEigen n a =
     (pick (eq (amax (n * n) a) f0) (eigen (filled n f0) (identity n)) (jacobi n a (amax (n * n) a)))
     nothing
 
--- what a caller's two lists hold afterwards: the start of each is written where there is a decomposition
-abbrev pub written : Eigen → List Float → List Float → Out (Two (List Float) (List Float))
-written (eigen l v) o p = out true (two (over l o) (over v p))
-written nothing o p = out false (two o p)
+-- what a call gave: its two lists, or nothing where it says that there is no decomposition
+unfoldable pub given : Bool → List Float → List Float → Eigen
+given true l v = eigen l v
+given false l v = nothing
 
 -- ---- `split`: the numbers of the eigenvalues above the cutoff, and of the others
 unfoldable pub range : ℕ → List Float → Float → List ℕ

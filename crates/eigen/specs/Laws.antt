@@ -1,19 +1,39 @@
--- Laws of the definitions: the lists of a decomposition have n and n * n elements.
+-- Laws of the definitions: the lists of a decomposition have n and n * n elements, and what `split` gives is below n.
 use mathlib.Core.Path.{_≡_, refl}
-use mathlib.Core.Bool.{Bool, true, false}
+use mathlib.Core.Bool.{true, false}
 use mathlib.Core.List.{List}
-use Prim.Native.Nat.{ℕ, zero, suc, _+_, _*_}
+use Prim.Native.Nat.{ℕ, zero, suc, _+_, _*_, _≤_}
 use lib.ListN.{length, length-set}
 use lib.Ieee.{Float, eq}
 use Rattle.folds.specs.Fold.{fold-keep, pick-keep, span, Out, out}
 use Rattle.folds.specs.Tab.{length-tab, length-tabM}
 use Rattle.folds.specs.Part.{two}
 use Rattle.folds.specs.Run.{run, Pass, more, done}
+use Rattle.folds.specs.Chosen.{length-chosen, chosen-below}
 use Rattle.arith.specs.Float.{f0}
-use Rattle.vector.specs.Vector.{filled}
-use Rattle.matrix.specs.Matrix.{cell, unit, identity}
+use Rattle.vector.specs.Vector.{Below}
+use Rattle.vector.specs.Laws.{length-filled}
+use Rattle.matrix.specs.Matrix.{cell, identity}
+use Rattle.matrix.specs.Laws.{length-identity}
 use Rattle.eigen.specs.declared.Turn.{Turn}
-use Rattle.eigen.specs.Eigen.{State, turnInRow, turnColumns, rotate, sweepRow, sweep, pass, sweeps, Eigen, eigen, nothing, values, answer, tolerance, start, jacobi, symmetricEigen}
+use Rattle.eigen.specs.Eigen.{State, turnInRow, turnColumns, rotate, sweepRow, sweep, pass, sweeps, Eigen, eigen, nothing, symmetric, values, answer, given, tolerance, start, jacobi, symmetricEigen, range}
+
+pub length-symmetric : (n : ℕ) (r : List Float) → length (symmetric n r) ≡ n * n
+unfolding symmetric
+length-symmetric n r = length-tabM n n _
+
+pub length-values : (n : ℕ) (a : List Float) (scale : Float) → length (values n a scale) ≡ n
+unfolding values
+length-values n a scale = length-tab n _
+
+-- what a call gave
+pub given-eigen : (l v : List Float) → given true l v ≡ eigen l v
+unfolding given
+given-eigen l v = refl
+
+pub given-nothing : (l v : List Float) → given false l v ≡ nothing
+unfolding given
+given-nothing l v = refl
 
 abbrev vectorsOf : State → List Float
 vectorsOf (two a v) = v
@@ -32,7 +52,8 @@ rotate-square n p q (two a v) e = pick-keep (Square n) (eq (cell a n p q) f0) e 
 sweep-square : (n : ℕ) (s : State) → Square n s → Square n (sweep n s)
 unfolding sweep sweepRow span
 sweep-square n s e =
-    fold-keep (Square n) n (sweepRow n) s e (λ p t l h. fold-keep (Square n) _ (λ q. rotate n p (p + 1 + q)) t h (λ q u m g. rotate-square n p (p + 1 + q) u g))
+    fold-keep (Square n) n (sweepRow n) s e
+    (λ p t l h. fold-keep (Square n) _ (λ q. rotate n p (p + 1 + q)) t h (λ q u m g. rotate-square n p (p + 1 + q) u g))
 
 abbrev stateOf : Out State → State
 stateOf (out r s) = s
@@ -59,13 +80,8 @@ Fills n (eigen l v) = (length l ≡ n) × (length v ≡ n * n)
 Fills n nothing = n ≡ n
 
 answer-fills : (n : ℕ) (scale : Float) (o : Out State) → Square n (stateOf o) → Fills n (answer n scale o)
-unfolding values
-answer-fills n scale (out true (two a v)) e = (length-tab n _, e)
+answer-fills n scale (out true (two a v)) e = (length-values n a scale, e)
 answer-fills n scale (out false s) e = refl
-
-identity-square : (n : ℕ) → length (identity n) ≡ n * n
-unfolding identity
-identity-square n = length-tabM n n unit
 
 sweeps-square : (n : ℕ) (within : Float) (s : State) → Square n s → Square n (stateOf (sweeps n within s))
 unfolding sweeps
@@ -75,8 +91,18 @@ jacobi-fills : (n : ℕ) (a : List Float) (scale : Float) → Fills n (jacobi n 
 unfolding jacobi
 jacobi-fills n a scale =
     answer-fills n scale (sweeps n (tolerance n (start n a scale)) (two (start n a scale) (identity n)))
-    (sweeps-square n (tolerance n (start n a scale)) (two (start n a scale) (identity n)) (identity-square n))
+    (sweeps-square n (tolerance n (start n a scale)) (two (start n a scale) (identity n)) (length-identity n))
 
 pub fills : (n : ℕ) (a : List Float) → Fills n (symmetricEigen n a)
-unfolding symmetricEigen filled
-fills n a = pick-keep (Fills n) _ (pick-keep (Fills n) _ (length-tab n _, identity-square n) (jacobi-fills n a _)) refl
+unfolding symmetricEigen
+fills n a = pick-keep (Fills n) _ (pick-keep (Fills n) _ (length-filled n f0, length-identity n) (jacobi-fills n a _)) refl
+
+-- ---- `split`: at most n numbers, each below n
+module _ (n : ℕ) (values : List Float) (cutoff : Float) where
+  pub range-few : length (range n values cutoff) ≤ n
+  unfolding range
+  range-few = length-chosen n _
+
+  pub range-below : Below (length (range n values cutoff)) (range n values cutoff) n
+  unfolding range
+  range-below i h = chosen-below n _ i h

@@ -1,6 +1,5 @@
 pub mod Eigen
-pub mod Known
 pub mod Laws
-pub mod Neutral
-pub mod Quotients
+pub mod Turned
 pub mod Products
+pub mod Known

@@ -4,10 +4,9 @@ ghost use Prim.Native.Nat.{_≤_, _<_, _*_};
 ghost use lib.ListN.{length};
 ghost use Rattle.folds.specs.Fold.{out, over};
 ghost use Rattle.folds.specs.Part.{two};
-ghost use Rattle.vector.specs.Vector as Vector;
 ghost use Rattle.matrix.specs.Matrix as Matrix;
 ghost use Rattle.eigen.specs.Eigen as Eigen;
-ghost use Rattle.eigen.specs.Quotients as Quotients;
+ghost use Rattle.eigen.specs.Products.{Finite};
 
 // Sweeps allowed before giving up.
 const MAX_SWEEPS: usize = 100;
@@ -186,17 +185,17 @@ fn symmetric(r: &[f64], n: usize, a: &mut [f64])
     }
 }
 
-// b = what the sweeps start from, v = the identity, r = VᵀAV over the scale. With V the identity and finite quotients
+// a becomes what the sweeps start from, v the identity. r = VᵀAV over the scale: with V the identity and finite quotients
 // these products are the quotients + 0.
-fn start(a: &[f64], n: usize, scale: f64, r: &mut [f64], b: &mut [f64], v: &mut [f64])
-    requires { ⌜ (n ≤ 32) × (n * n ≤ length (now a)) × (length (now r) ≡ n * n) × (length (now b) ≡ n * n) × (length (now v) ≡ n * n) × Quotients.Finite n (now a) scale ⌝ }
-    ensures { λ _. ⌜ (now (r .exit) ≡ Eigen.rotated n (Vector.divided (n * n) (now (a .entry)) scale)) × (now (b .exit) ≡ Eigen.start n (now (a .entry)) scale) × (now (v .exit) ≡ Matrix.identity n) ⌝ }
+fn start(a: &mut [f64], n: usize, scale: f64, r: &mut [f64], v: &mut [f64])
+    requires { ⌜ (length (now a) ≡ n * n) × (length (now r) ≡ n * n) × (length (now v) ≡ n * n) × Finite n (now a) scale ⌝ }
+    ensures { λ _. ⌜ (now (a .exit) ≡ Eigen.start n (now (a .entry)) scale) × (now (v .exit) ≡ Matrix.identity n) ⌝ }
 {
-    let count = n * n;
-    vector::divided(a, count, scale, b);
-    vector::add_scalar(&b[..], count, 0.0, r);
+    let count = a.len();
+    vector::divide(a, count, scale);
+    vector::add_scalar(&a[..], count, 0.0, r);
     matrix::identity(v, n);
-    symmetric(&r[..], n, b);
+    symmetric(&r[..], n, a);
 }
 
 fn eigenvalues(a: &[f64], n: usize, scale: f64, values: &mut [f64])
@@ -208,66 +207,57 @@ fn eigenvalues(a: &[f64], n: usize, scale: f64, values: &mut [f64])
     }
 }
 
-// The decomposition in work memory r, b and v, then written out.
 fn jacobi(
-    a: &[f64],
+    a: &mut [f64],
     n: usize,
     scale: f64,
     r: &mut [f64],
-    b: &mut [f64],
-    v: &mut [f64],
     values: &mut [f64],
     vectors: &mut [f64],
 ) -> bool
-    requires { ⌜ (n ≤ 32) × (n * n ≤ length (now a)) × (length (now r) ≡ n * n) × (length (now b) ≡ n * n) × (length (now v) ≡ n * n) × (n ≤ length (now values)) × (n * n ≤ length (now vectors)) × Quotients.Finite n (now a) scale ⌝ }
-    ensures { λ ok. ⌜ out ok (two (now (values .exit)) (now (vectors .exit))) ≡ Eigen.written (Eigen.jacobi n (now (a .entry)) scale) (now (values .entry)) (now (vectors .entry)) ⌝ }
+    requires { ⌜ (length (now a) ≡ n * n) × (length (now r) ≡ n * n) × (length (now values) ≡ n) × (length (now vectors) ≡ n * n) ×
+        Finite n (now a) scale ⌝ }
+    ensures { λ ok. ⌜ Eigen.given ok (now (values .exit)) (now (vectors .exit)) ≡ Eigen.jacobi n (now (a .entry)) scale ⌝ }
 {
-    let count = n * n;
-    start(a, n, scale, r, b, v);
-    let tolerance = arith::EPSILON * vector::norm(&b[..], count);
-    if sweeps(b, v, n, tolerance) {
-        eigenvalues(&b[..], n, scale, values);
-        vector::copy(&v[..], count, vectors);
+    start(a, n, scale, r, vectors);
+    let tolerance = arith::EPSILON * vector::norm(&a[..], a.len());
+    if sweeps(a, vectors, n, tolerance) {
+        eigenvalues(&a[..], n, scale, values);
         return true;
     }
     false
 }
 
-// `SymmetricEigen::new`: the eigenvalues and the eigenvectors of a, at the start of the two slices; false, and nothing
-// written, if a has NaN or infinite entries or the sweeps run out.
-pub fn symmetric_eigen(a: &[f64], n: usize, values: &mut [f64], vectors: &mut [f64]) -> bool
-    requires { ⌜ (n ≤ 32) × (n * n ≤ length (now a)) × (n ≤ length (now values)) × (n * n ≤ length (now vectors)) ⌝ }
-    ensures { λ r. ⌜ out r (two (now (values .exit)) (now (vectors .exit))) ≡ Eigen.written (Eigen.symmetricEigen n (now (a .entry))) (now (values .entry)) (now (vectors .entry)) ⌝ }
+// `SymmetricEigen::new`: the eigenvalues and the eigenvectors of a, which is consumed; false if a has NaN or infinite
+// entries or the sweeps run out.
+pub fn symmetric_eigen(
+    a: &mut [f64],
+    n: usize,
+    room: &mut [f64],
+    values: &mut [f64],
+    vectors: &mut [f64],
+) -> bool
+    requires { ⌜ (length (now a) ≡ n * n) × (length (now room) ≡ n * n) × (length (now values) ≡ n) × (length (now vectors) ≡ n * n) ⌝ }
+    ensures { λ ok. ⌜ Eigen.given ok (now (values .exit)) (now (vectors .exit)) ≡ Eigen.symmetricEigen n (now (a .entry)) ⌝ }
 {
-    let count = n * n;
-    if !vector::all_finite(a, count) {
+    let count = a.len();
+    if !vector::all_finite(&a[..], count) {
         return false;
     }
-    let scale = vector::amax(a, count);
+    let scale = vector::amax(&a[..], count);
     if scale == 0.0 {
         vector::fill(values, n, 0.0);
         matrix::identity(vectors, n);
         return true;
     }
-    let mut r = [0.0; 1024];
-    let mut b = [0.0; 1024];
-    let mut v = [0.0; 1024];
-    jacobi(
-        a,
-        n,
-        scale,
-        &mut r[..count],
-        &mut b[..count],
-        &mut v[..count],
-        values,
-        vectors,
-    )
+    jacobi(a, n, scale, room, values, vectors)
 }
 
 // `split`: the numbers of the eigenvalues above the cutoff, in order, and how many.
 pub fn range(values: &[f64], n: usize, cutoff: f64, list: &mut [usize]) -> usize
     requires { ⌜ (n ≤ length (now values)) × (n ≤ length (now list)) ⌝ }
-    ensures { λ r. ⌜ (r ≡ length (Eigen.range n (now (values .entry)) cutoff)) × (now (list .exit) ≡ over (Eigen.range n (now (values .entry)) cutoff) (now (list .entry))) ⌝ }
+    ensures { λ r. ⌜ (r ≡ length (Eigen.range n (now (values .entry)) cutoff)) ×
+        (now (list .exit) ≡ over (Eigen.range n (now (values .entry)) cutoff) (now (list .entry))) ⌝ }
 {
     let mut m = 0;
     for k in 0..n {
@@ -279,7 +269,8 @@ pub fn range(values: &[f64], n: usize, cutoff: f64, list: &mut [usize]) -> usize
 // And of the others.
 pub fn null(values: &[f64], n: usize, cutoff: f64, list: &mut [usize]) -> usize
     requires { ⌜ (n ≤ length (now values)) × (n ≤ length (now list)) ⌝ }
-    ensures { λ r. ⌜ (r ≡ length (Eigen.null n (now (values .entry)) cutoff)) × (now (list .exit) ≡ over (Eigen.null n (now (values .entry)) cutoff) (now (list .entry))) ⌝ }
+    ensures { λ r. ⌜ (r ≡ length (Eigen.null n (now (values .entry)) cutoff)) ×
+        (now (list .exit) ≡ over (Eigen.null n (now (values .entry)) cutoff) (now (list .entry))) ⌝ }
 {
     let mut m = 0;
     for k in 0..n {

@@ -1,1 +1,4 @@
 pub mod Matrix
+pub mod Laws
+pub mod Identity
+pub mod InPlace

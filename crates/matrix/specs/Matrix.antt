@@ -5,7 +5,8 @@ use lib.Dec.{eqb}
 use lib.ListN.{set, getD}
 use lib.Ieee.{Float}
 use Rattle.folds.specs.Fold.{fold, tab, tabM, pick}
-use Rattle.arith.specs.Float.{fmul, f0, f1, at, sum}
+use Rattle.arith.specs.Float.{fmul, fdiv, f0, f1, at, sum}
+use Rattle.vector.specs.Vector.{amax}
 
 -- row i, column j of a matrix of n rows
 abbrev pub cell : List Float → ℕ → ℕ → ℕ → Float
@@ -70,6 +71,17 @@ selectRows n m a k l = tabM k m (λ i j. cell a n (index l i) j)
 
 unfoldable pub selectColumns : ℕ → List Float → ℕ → List ℕ → List Float
 selectColumns n a k l = tabM n k (λ i j. cell a n i (index l j))
+
+-- a is n by m: each row over its element of by, and each column
+unfoldable pub rowsDivided : ℕ → ℕ → List Float → List Float → List Float
+rowsDivided n m a by = tabM n m (λ i j. fdiv (cell a n i j) (at by i))
+
+unfoldable pub columnsDivided : ℕ → ℕ → List Float → List Float → List Float
+columnsDivided n m a by = tabM n m (λ i j. fdiv (cell a n i j) (at by j))
+
+-- the largest absolute value of each column
+unfoldable pub columnsAmax : ℕ → ℕ → List Float → List Float
+columnsAmax n m a = tab m (λ j. amax n (column n a j))
 
 -- a loop down column j of a matrix of n rows: its first k entries become g 0, .., g (k - 1)
 unfoldable pub putColumn : ℕ → ℕ → ℕ → (ℕ → Float) → List Float → List Float

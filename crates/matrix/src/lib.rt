@@ -3,6 +3,7 @@ ghost use mathlib.Core.Path.{_≡_};
 ghost use Prim.Native.Nat.{_≤_, _<_, _*_};
 ghost use lib.ListN.{length};
 ghost use Rattle.folds.specs.Fold.{over};
+ghost use Rattle.arith.specs.Float.{fdiv, at};
 ghost use Rattle.vector.specs.Vector.{Below};
 ghost use Rattle.matrix.specs.Matrix as Matrix;
 
@@ -218,7 +219,8 @@ fn select_rows_column(
     b: &mut [f64],
 )
     requires { ⌜ (n * m ≤ length (now a)) × (k ≤ length (now list)) × Below k (now list) n × (k * m ≤ length (now b)) × (j < m) ⌝ }
-    ensures { λ _. ⌜ now (b .exit) ≡ Matrix.putColumn k k j (λ i. Matrix.cell (now (a .entry)) n (Matrix.index (now (list .entry)) i) j) (now (b .entry)) ⌝ }
+    ensures { λ _. ⌜ now (b .exit) ≡
+        Matrix.putColumn k k j (λ i. Matrix.cell (now (a .entry)) n (Matrix.index (now (list .entry)) i) j) (now (b .entry)) ⌝ }
 {
     for i in 0..k {
         let v = get(a, n, m, list[i], j);
@@ -254,5 +256,56 @@ pub fn select_columns(a: &[f64], n: usize, m: usize, list: &[usize], k: usize, b
 {
     for j in 0..k {
         copy_column(a, n, m, list[j], k, j, b);
+    }
+}
+
+fn divide_rows_column(a: &mut [f64], n: usize, m: usize, by: &[f64], j: usize)
+    requires { ⌜ (n * m ≤ length (now a)) × (n ≤ length (now by)) × (j < m) ⌝ }
+    ensures { λ _. ⌜ now (a .exit) ≡
+        Matrix.putColumn n n j (λ i. fdiv (Matrix.cell (now (a .entry)) n i j) (at (now (by .entry)) i)) (now (a .entry)) ⌝ }
+{
+    for i in 0..n {
+        let v = get(&a[..], n, m, i, j);
+        put(a, n, m, i, j, v / by[i]);
+    }
+}
+
+// In place: each row of a (n by m) over its element of by.
+pub fn divide_rows(a: &mut [f64], n: usize, m: usize, by: &[f64])
+    requires { ⌜ (n * m ≤ length (now a)) × (n ≤ length (now by)) ⌝ }
+    ensures { λ _. ⌜ now (a .exit) ≡ over (Matrix.rowsDivided n m (now (a .entry)) (now (by .entry))) (now (a .entry)) ⌝ }
+{
+    for j in 0..m {
+        divide_rows_column(a, n, m, by, j);
+    }
+}
+
+fn divide_column(a: &mut [f64], n: usize, m: usize, by: f64, j: usize)
+    requires { ⌜ (n * m ≤ length (now a)) × (j < m) ⌝ }
+    ensures { λ _. ⌜ now (a .exit) ≡ Matrix.putColumn n n j (λ i. fdiv (Matrix.cell (now (a .entry)) n i j) by) (now (a .entry)) ⌝ }
+{
+    for i in 0..n {
+        let v = get(&a[..], n, m, i, j);
+        put(a, n, m, i, j, v / by);
+    }
+}
+
+// And each column.
+pub fn divide_columns(a: &mut [f64], n: usize, m: usize, by: &[f64])
+    requires { ⌜ (n * m ≤ length (now a)) × (m ≤ length (now by)) ⌝ }
+    ensures { λ _. ⌜ now (a .exit) ≡ over (Matrix.columnsDivided n m (now (a .entry)) (now (by .entry))) (now (a .entry)) ⌝ }
+{
+    for j in 0..m {
+        divide_column(a, n, m, by[j], j);
+    }
+}
+
+// y = the largest absolute value of each column of a (n by m).
+pub fn columns_amax(a: &[f64], n: usize, m: usize, y: &mut [f64])
+    requires { ⌜ (n * m ≤ length (now a)) × (m ≤ length (now y)) ⌝ }
+    ensures { λ _. ⌜ now (y .exit) ≡ over (Matrix.columnsAmax n m (now (a .entry))) (now (y .entry)) ⌝ }
+{
+    for j in 0..m {
+        y[j] = vector::amax(column(a, n, m, j), n);
     }
 }

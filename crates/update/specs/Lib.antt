@@ -1,2 +1,6 @@
 pub mod Update
+pub mod Laws
+pub mod Lower
+pub mod Leaving
+pub mod Same
 pub mod Known

@@ -4,6 +4,7 @@ ghost use Prim.Native.Nat.{_≤_, _<_, _*_, _+_};
 ghost use lib.ListN.{length};
 ghost use Rattle.folds.specs.Fold.{over, span};
 ghost use Rattle.folds.specs.Part.{two};
+ghost use Rattle.sizes.specs.Sizes.{originals};
 ghost use Rattle.matrix.specs.Matrix.{putColumn};
 ghost use Rattle.update.specs.Update as Update;
 
@@ -68,7 +69,7 @@ fn staying(p: usize, i: usize, n: usize) -> usize
 }
 
 fn close_column(old: &[f64], n: usize, p: usize, j: usize, l: &mut [f64])
-    requires { ⌜ ((n + 1) * (n + 1) ≤ length (now old)) × (n < 32) × (j < n) × (n * n ≤ length (now l)) ⌝ }
+    requires { ⌜ ((n + 1) * (n + 1) ≤ length (now old)) × (n < originals) × (j < n) × (n * n ≤ length (now l)) ⌝ }
     ensures { λ _. ⌜ now (l .exit) ≡ putColumn n n j (λ i. Update.closedEntry n p (now (old .entry)) i j) (now (l .entry)) ⌝ }
 {
     let b = staying(p, j, n);
@@ -80,7 +81,7 @@ fn close_column(old: &[f64], n: usize, p: usize, j: usize, l: &mut [f64])
 }
 
 fn close(old: &[f64], n: usize, p: usize, l: &mut [f64])
-    requires { ⌜ ((n + 1) * (n + 1) ≤ length (now old)) × (n < 32) × (n * n ≤ length (now l)) ⌝ }
+    requires { ⌜ ((n + 1) * (n + 1) ≤ length (now old)) × (n < originals) × (n * n ≤ length (now l)) ⌝ }
     ensures { λ _. ⌜ now (l .exit) ≡ over (Update.closed n p (now (old .entry))) (now (l .entry)) ⌝ }
 {
     for j in 0..n {
@@ -89,7 +90,7 @@ fn close(old: &[f64], n: usize, p: usize, l: &mut [f64])
 }
 
 fn removed_entry(l: &[f64], n: usize, p: usize, i: usize) -> f64
-    requires { ⌜ ((n + 1) * (n + 1) ≤ length (now l)) × (n < 32) × (p ≤ n) × (i < n) ⌝ }
+    requires { ⌜ ((n + 1) * (n + 1) ≤ length (now l)) × (n < originals) × (p ≤ n) × (i < n) ⌝ }
     ensures { λ r. ⌜ r ≡ Update.removedEntry n p (now (l .entry)) i ⌝ }
 {
     if i < p {
@@ -99,7 +100,7 @@ fn removed_entry(l: &[f64], n: usize, p: usize, i: usize) -> f64
 }
 
 fn removed(l: &[f64], n: usize, p: usize, v: &mut [f64])
-    requires { ⌜ ((n + 1) * (n + 1) ≤ length (now l)) × (n < 32) × (p ≤ n) × (length (now v) ≡ n) ⌝ }
+    requires { ⌜ ((n + 1) * (n + 1) ≤ length (now l)) × (n < originals) × (p ≤ n) × (length (now v) ≡ n) ⌝ }
     ensures { λ _. ⌜ now (v .exit) ≡ Update.removed n p (now (l .entry)) ⌝ }
 {
     for i in 0..n {
@@ -109,7 +110,7 @@ fn removed(l: &[f64], n: usize, p: usize, v: &mut [f64])
 
 // v is room for the removed column.
 fn leave(old: &[f64], n: usize, p: usize, l: &mut [f64], v: &mut [f64])
-    requires { ⌜ ((n + 1) * (n + 1) ≤ length (now old)) × (n < 32) × (p ≤ n) × (n * n ≤ length (now l)) × (length (now v) ≡ n) ⌝ }
+    requires { ⌜ ((n + 1) * (n + 1) ≤ length (now old)) × (n < originals) × (p ≤ n) × (n * n ≤ length (now l)) × (length (now v) ≡ n) ⌝ }
     ensures { λ _. ⌜ now (l .exit) ≡ Update.leave n p (now (old .entry)) (now (l .entry)) ⌝ }
 {
     removed(old, n, p, v);
@@ -117,16 +118,15 @@ fn leave(old: &[f64], n: usize, p: usize, l: &mut [f64], v: &mut [f64])
     rank_one(l, v, n, p, 1.0);
 }
 
-// The factor of k variables without variable p.
-pub fn remove_column(l: [f64; 1024], k: usize, p: usize) -> [f64; 1024]
-    requires { ⌜ (p < k) × (k ≤ 32) ⌝ }
-    ensures { λ r. ⌜ r ≡ Update.removeColumn k p l ⌝ }
+// The factor of k variables without variable p, in place. The factor as it was goes to room.
+pub fn remove_column(l: &mut [f64], k: usize, p: usize, room: &mut [f64])
+    requires { ⌜ (p < k) × (k ≤ originals) × (k * k ≤ length (now l)) × (k * k ≤ length (now room)) ⌝ }
+    ensures { λ _. ⌜ now (l .exit) ≡ Update.removeColumn k p (now (l .entry)) ⌝ }
 {
-    let mut left = l;
-    let mut v = [0.0; 32];
+    let mut v = [0.0; sizes::ORIGINALS];
     let n = k - 1;
-    leave(&l[..], n, p, &mut left[..], &mut v[..n]);
-    left
+    vector::copy(&l[..], k * k, room);
+    leave(&room[..], n, p, l, &mut v[..n]);
 }
 
 fn join_diagonal(x: &mut [f64], p: usize)
@@ -138,7 +138,7 @@ fn join_diagonal(x: &mut [f64], p: usize)
 }
 
 fn join_below(l: &[f64], n: usize, p: usize, x: &mut [f64])
-    requires { ⌜ (n * n ≤ length (now l)) × (n < 32) × (p ≤ n) × (n + 1 ≤ length (now x)) ⌝ }
+    requires { ⌜ (n * n ≤ length (now l)) × (n < originals) × (p ≤ n) × (n + 1 ≤ length (now x)) ⌝ }
     ensures { λ _. ⌜ now (x .exit) ≡ span (p + 1) (n + 1) (Update.joinBelow n p (now (l .entry))) (now (x .entry)) ⌝ }
 {
     for i in p + 1..n + 1 {
@@ -148,7 +148,7 @@ fn join_below(l: &[f64], n: usize, p: usize, x: &mut [f64])
 }
 
 fn joining(l: &[f64], n: usize, p: usize, x: &mut [f64])
-    requires { ⌜ (n * n ≤ length (now l)) × (n < 32) × (p ≤ n) × (n + 1 ≤ length (now x)) ⌝ }
+    requires { ⌜ (n * n ≤ length (now l)) × (n < originals) × (p ≤ n) × (n + 1 ≤ length (now x)) ⌝ }
     ensures { λ _. ⌜ now (x .exit) ≡ Update.joining n p (now (l .entry)) (now (x .entry)) ⌝ }
 {
     triangular::forward(l, n, p, x);
@@ -184,8 +184,9 @@ fn joined_entry(l: &[f64], n: usize, p: usize, x: &[f64], i: usize, j: usize) ->
 }
 
 fn joined_column(old: &[f64], n: usize, p: usize, x: &[f64], j: usize, l: &mut [f64])
-    requires { ⌜ (n * n ≤ length (now old)) × (n < 32) × (p ≤ n) × (j ≤ n) × (n < length (now x)) × ((n + 1) * (n + 1) ≤ length (now l)) ⌝ }
-    ensures { λ _. ⌜ now (l .exit) ≡ putColumn (n + 1) (n + 1) j (λ i. Update.joinedEntry n p (now (old .entry)) (now (x .entry)) i j) (now (l .entry)) ⌝ }
+    requires { ⌜ (n * n ≤ length (now old)) × (n < originals) × (p ≤ n) × (j ≤ n) × (n < length (now x)) × ((n + 1) * (n + 1) ≤ length (now l)) ⌝ }
+    ensures { λ _. ⌜ now (l .exit) ≡
+        putColumn (n + 1) (n + 1) j (λ i. Update.joinedEntry n p (now (old .entry)) (now (x .entry)) i j) (now (l .entry)) ⌝ }
 {
     for i in 0..n + 1 {
         let v = joined_entry(old, n, p, x, i, j);
@@ -194,7 +195,7 @@ fn joined_column(old: &[f64], n: usize, p: usize, x: &[f64], j: usize, l: &mut [
 }
 
 fn joined(old: &[f64], n: usize, p: usize, x: &[f64], l: &mut [f64])
-    requires { ⌜ (n * n ≤ length (now old)) × (n < 32) × (p ≤ n) × (n < length (now x)) × ((n + 1) * (n + 1) ≤ length (now l)) ⌝ }
+    requires { ⌜ (n * n ≤ length (now old)) × (n < originals) × (p ≤ n) × (n < length (now x)) × ((n + 1) * (n + 1) ≤ length (now l)) ⌝ }
     ensures { λ _. ⌜ now (l .exit) ≡ over (Update.joined n p (now (old .entry)) (now (x .entry))) (now (l .entry)) ⌝ }
 {
     for j in 0..n + 1 {
@@ -204,7 +205,8 @@ fn joined(old: &[f64], n: usize, p: usize, x: &[f64], l: &mut [f64])
 
 // x is room for the new row and column.
 fn join(old: &[f64], n: usize, p: usize, q: &[f64], l: &mut [f64], x: &mut [f64])
-    requires { ⌜ (n * n ≤ length (now old)) × (n < 32) × (p ≤ n) × (n < length (now q)) × ((n + 1) * (n + 1) ≤ length (now l)) × (length (now x) ≡ n + 1) ⌝ }
+    requires { ⌜ (n * n ≤ length (now old)) × (n < originals) × (p ≤ n) × (n < length (now q)) ×
+        ((n + 1) * (n + 1) ≤ length (now l)) × (length (now x) ≡ n + 1) ⌝ }
     ensures { λ _. ⌜ now (l .exit) ≡ Update.join n p (now (q .entry)) (now (old .entry)) (now (l .entry)) ⌝ }
 {
     vector::copy(q, n + 1, x);
@@ -213,14 +215,17 @@ fn join(old: &[f64], n: usize, p: usize, q: &[f64], l: &mut [f64], x: &mut [f64]
     rank_one(l, x, n + 1, p + 1, -1.0);
 }
 
-// The factor of n variables with one more at place p, whose column of the matrix is q.
-pub fn insert_column(l: [f64; 1024], n: usize, p: usize, q: &[f64]) -> [f64; 1024]
-    requires { ⌜ (n < 32) × (p ≤ n) × (n < length (now q)) ⌝ }
-    ensures { λ r. ⌜ r ≡ Update.insertColumn n p (now (q .entry)) l ⌝ }
+// The factor of n variables with one more at place p, whose column of the matrix is q, in place. The factor as it was goes to room.
+pub fn insert_column(l: &mut [f64], n: usize, p: usize, q: &[f64], room: &mut [f64])
+    requires { ⌜ (n < originals)
+        × (p ≤ n)
+        × (n < length (now q))
+        × ((n + 1) * (n + 1) ≤ length (now l))
+        × (n * n ≤ length (now room)) ⌝ }
+    ensures { λ _. ⌜ now (l .exit) ≡ Update.insertColumn n p (now (q .entry)) (now (l .entry)) ⌝ }
 {
-    let mut whole = l;
-    let mut x = [0.0; 32];
+    let mut x = [0.0; sizes::ORIGINALS];
     let k = n + 1;
-    join(&l[..], n, p, q, &mut whole[..], &mut x[..k]);
-    whole
+    vector::copy(&l[..], n * n, room);
+    join(&room[..], n, p, q, l, &mut x[..k]);
 }

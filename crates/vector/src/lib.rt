@@ -11,11 +11,11 @@ pub fn dot(a: &[f64], b: &[f64], n: usize) -> f64
     requires { ⌜ (n ≤ length (now a)) × (n ≤ length (now b)) ⌝ }
     ensures { λ r. ⌜ r ≡ Vector.dot n (now (a .entry)) (now (b .entry)) ⌝ }
 {
-    let mut s = 0.0;
-    for k in 0..n {
-        s = s + a[k] * b[k];
+    let mut sum = 0.0;
+    for i in 0..n {
+        sum = sum + a[i] * b[i];
     }
-    s
+    sum
 }
 
 pub fn sum_squares(a: &[f64], n: usize) -> f64
@@ -143,7 +143,16 @@ pub fn divide(a: &mut [f64], n: usize, by: f64)
     }
 }
 
-// y becomes y + x by, and y - x by.
+// y becomes y - x, y + x by and y - x by.
+pub fn sub_from(y: &mut [f64], n: usize, x: &[f64])
+    requires { ⌜ (n ≤ length (now y)) × (n ≤ length (now x)) ⌝ }
+    ensures { λ _. ⌜ now (y .exit) ≡ over (Vector.sub n (now (y .entry)) (now (x .entry))) (now (y .entry)) ⌝ }
+{
+    for k in 0..n {
+        y[k] = y[k] - x[k];
+    }
+}
+
 pub fn add_scaled(y: &mut [f64], n: usize, x: &[f64], by: f64)
     requires { ⌜ (n ≤ length (now y)) × (n ≤ length (now x)) ⌝ }
     ensures { λ _. ⌜ now (y .exit) ≡ over (Vector.addScaled n (now (y .entry)) (now (x .entry)) by) (now (y .entry)) ⌝ }

@@ -7,10 +7,6 @@ pub angle-spec : {M : Type 1} → statement M
 unfolding angle
 angle-spec =
     tie.close
-    (tie.spec
-    (λ c κs. search kit)  -- get-requires
-    (λ c κs. search kit)  -- get-requires-2
-    (λ c κs. search kit)  -- get-requires-3
-    (λ c κs. search kit)  -- tangent-requires
-    (λ c κs. search kit)  -- turn-by-requires
-    (λ c. let g = c .before .before in rw (c .turn-by .ensures, c .before .tangent .ensures, g .get3 .ensures, g .before .get2 .ensures, g .before .before .get .ensures)))  -- returns
+    (tie.spec (λ c κs. search kit) (λ c κs. search kit) (λ c κs. search kit) (λ c κs. search kit) (λ c κs. search kit)
+    (λ c. let g = c .before .before in
+    rw (c .turn-by .ensures, c .before .tangent .ensures, g .get3 .ensures, g .before .get2 .ensures, g .before .before .get .ensures)))  -- returns

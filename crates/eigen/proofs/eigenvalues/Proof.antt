@@ -15,13 +15,8 @@ pub eigenvalues-spec : {M : Type 1} → statement M
 unfolding values
 eigenvalues-spec =
     tie.close
-    (tie.spec Inv-loop μ-loop
-    (λ c. search over-kit)  -- loop-holds
-    (λ c κs. search over-kit)  -- get-requires
-    (λ c. search over-kit)  -- mul-values
-    (λ c. search over-kit)  -- slice-write-values
-    (λ c. search over-kit)  -- add-i
-    (λ c. search over-kit)  -- loop-less
+    (tie.spec Inv-loop μ-loop (λ c. search over-kit) (λ c κs. search over-kit) (λ c. search over-kit) (λ c. search over-kit) (λ c. search over-kit)
+    (λ c. search over-kit)
     (λ c. let at = c .before .before .loop in (omega arith, simp length-set (at .inv .1), fold-call _ _ _ (at .inv .2) (rw (c .get .ensures))))  -- loop-again
-    (λ c. search over-kit)  -- same-length
+    (λ c. search over-kit)
     (λ c. search over-kit))  -- returns

@@ -14,10 +14,6 @@ pub off-diagonal-spec : {M : Type 1} → statement M
 unfolding offDiagonal
 off-diagonal-spec =
     tie.close
-    (tie.spec Inv-loop μ-loop
-    (λ c. search kit)  -- loop-holds
-    (λ c κs. search kit)  -- off-row-requires
-    (λ c. search kit)  -- add-p
-    (λ c. search kit)  -- loop-less
+    (tie.spec Inv-loop μ-loop (λ c. search kit) (λ c κs. search kit) (λ c. search kit) (λ c. search kit)
     (λ c. search kit)  -- loop-again
     (λ c. search kit))  -- returns

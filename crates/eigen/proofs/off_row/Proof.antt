@@ -17,11 +17,6 @@ pub off-row-spec : {M : Type 1} → statement M
 unfolding offRow
 off-row-spec =
     tie.close
-    (tie.spec Inv-loop μ-loop
-    (λ c. search kit)  -- add-q
-    (λ c. search kit)  -- loop-holds
-    (λ c κs. search kit)  -- get-requires
-    (λ c. search kit)  -- add-q-2
-    (λ c. search kit)  -- loop-less
+    (tie.spec Inv-loop μ-loop (λ c. search kit) (λ c. search kit) (λ c κs. search kit) (λ c. search kit) (λ c. search kit)
     (λ c. let at = c .before .before .loop .inv in (omega arith, omega arith, span-call _ _ _ _ (at .0) (at .2) (rw (c .get .ensures))))  -- loop-again
     (λ c. search kit))  -- returns

@@ -8,7 +8,9 @@ use Rattle.eigen.proofs.range.Statement.{statement}
 use Rattle.eigen.proofs.range.Tie as tie
 
 abbrev Inv-loop : tie.InvT-loop
-Inv-loop values n cutoff list₀ m₀ k₀ list m k = (k ≤ n) × (m ≤ k) × (length list ≡ length list₀) × (m ≡ length (chosen k (λ t. lt cutoff (at values t)))) × (list ≡ over (chosen k (λ t. lt cutoff (at values t))) list₀)
+Inv-loop values n cutoff list₀ m₀ k₀ list m k =
+    (k ≤ n) × (m ≤ k) × (length list ≡ length list₀) × (m ≡ length (chosen k (λ t. lt cutoff (at values t)))) ×
+    (list ≡ over (chosen k (λ t. lt cutoff (at values t))) list₀)
 
 abbrev μ-loop : tie.MeasureT-loop
 μ-loop values n cutoff list₀ m₀ k₀ list m k = n - k
@@ -19,11 +21,13 @@ range-spec =
     tie.close
     (tie.spec Inv-loop μ-loop
     (λ c. (omega arith, omega arith, refl, refl, refl))  -- loop-holds
-    (λ c. search kit)  -- mul-push-if
-    (λ c. search kit)  -- shared-slice-read-push-if
+    (λ c. search kit) (λ c. search kit)
     (λ c κs. omega arith)  -- push-if-requires
-    (λ c. search kit)  -- add-k
-    (λ c. search kit)  -- loop-less
-    (λ c. let r = c .before .before in let inv = r .before .before .before .before .loop .inv in let k = c .before .before .before .before .before .before .before .before .before .args in let s = chosen-step _ (λ t. lt (k .cutoff) (at (k .values .now) t)) _ (inv .3) (inv .4) (omega arith) (r .push-if .ensures .0) in (omega arith, omega (arith, r .push-if .ensures .1), omega arith, s .0, s .1))  -- loop-again
-    (λ c. search kit)  -- same-length
-    (λ c. let inv = c .before .loop .inv in (rw (← le-antisymm (inv .0) (c .loop-test .left)) (inv .3), rw (← le-antisymm (inv .0) (c .loop-test .left)) (inv .4))))  -- returns
+    (λ c. search kit) (λ c. search kit)
+    (λ c. let r = c .before .before in let inv = r .before .before .before .before .loop .inv in
+    let k = c .before .before .before .before .before .before .before .before .before .args in
+    let s = chosen-step _ (λ t. lt (k .cutoff) (at (k .values .now) t)) _ (inv .3) (inv .4) (omega arith) (r .push-if .ensures .0) in
+    (omega arith, omega (arith, r .push-if .ensures .1), omega arith, s .0, s .1))  -- loop-again
+    (λ c. search kit)
+    (λ c. let inv = c .before .loop .inv in
+    (rw (← le-antisymm (inv .0) (c .loop-test .left)) (inv .3), rw (← le-antisymm (inv .0) (c .loop-test .left)) (inv .4))))  -- returns

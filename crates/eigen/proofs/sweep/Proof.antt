@@ -14,12 +14,8 @@ pub sweep-spec : {M : Type 1} → statement M
 unfolding sweep
 sweep-spec =
     tie.close
-    (tie.spec Inv-loop μ-loop
-    (λ c. search kit)  -- loop-holds
-    (λ c κs. search kit)  -- sweep-row-requires
-    (λ c. search kit)  -- add-p
-    (λ c. search kit)  -- loop-less
-    (λ c. let r = c .before .before .before .before in let at = r .before .before .before .before .loop .inv in (omega arith, omega arith, omega arith, fold-call _ _ _ (at .3) (r .sweep-row .ensures)))  -- loop-again
-    (λ c. search kit)  -- same-length
-    (λ c. search kit)  -- same-length-2
+    (tie.spec Inv-loop μ-loop (λ c. search kit) (λ c κs. search kit) (λ c. search kit) (λ c. search kit)
+    (λ c. let r = c .before .before .before .before in let at = r .before .before .before .before .loop .inv in
+    (omega arith, omega arith, omega arith, fold-call _ _ _ (at .3) (r .sweep-row .ensures)))  -- loop-again
+    (λ c. search kit) (λ c. search kit)
     (λ c. search kit))  -- returns

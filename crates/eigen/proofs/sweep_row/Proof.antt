@@ -5,7 +5,8 @@ use Rattle.eigen.proofs.sweep_row.Statement.{statement}
 use Rattle.eigen.proofs.sweep_row.Tie as tie
 
 abbrev Inv-loop : tie.InvT-loop
-Inv-loop a₀ v₀ n p q₀ a v q = (p + 1 ≤ q) × (q ≤ n) × (length a ≡ length a₀) × (length v ≡ length v₀) × (two a v ≡ span (p + 1) q (rotate n p) (two a₀ v₀))
+Inv-loop a₀ v₀ n p q₀ a v q =
+    (p + 1 ≤ q) × (q ≤ n) × (length a ≡ length a₀) × (length v ≡ length v₀) × (two a v ≡ span (p + 1) q (rotate n p) (two a₀ v₀))
 
 abbrev μ-loop : tie.MeasureT-loop
 μ-loop a₀ v₀ n p q₀ a v q = n - q
@@ -16,13 +17,8 @@ pub sweep-row-spec : {M : Type 1} → statement M
 unfolding sweepRow
 sweep-row-spec =
     tie.close
-    (tie.spec Inv-loop μ-loop
-    (λ c. search kit)  -- add-q
-    (λ c. search kit)  -- loop-holds
-    (λ c κs. search kit)  -- rotate-requires
-    (λ c. search kit)  -- add-q-2
-    (λ c. search kit)  -- loop-less
-    (λ c. let r = c .before .before .before .before in let at = r .before .before .before .before .loop .inv in (omega arith, omega arith, omega arith, omega arith, span-call _ _ _ _ (at .0) (at .4) (r .rotate .ensures)))  -- loop-again
-    (λ c. search kit)  -- same-length
-    (λ c. search kit)  -- same-length-2
+    (tie.spec Inv-loop μ-loop (λ c. search kit) (λ c. search kit) (λ c κs. search kit) (λ c. search kit) (λ c. search kit)
+    (λ c. let r = c .before .before .before .before in let at = r .before .before .before .before .loop .inv in
+    (omega arith, omega arith, omega arith, omega arith, span-call _ _ _ _ (at .0) (at .4) (r .rotate .ensures)))  -- loop-again
+    (λ c. search kit) (λ c. search kit)
     (λ c. search kit))  -- returns

@@ -1,5 +1,6 @@
-use Rattle.folds.specs.Kit.{_≡_, _-_, _≤_, length, fold, over-kit}
+use Rattle.folds.specs.Kit.{_≡_, _-_, _≤_, length, fold}
 use Rattle.matrix.specs.Matrix.{putColumn}
+use Rattle.matrix.specs.Laws.{matrix-kit}
 use Rattle.eigen.specs.Eigen.{mean, symmetric}
 use Rattle.eigen.proofs.symmetric.Statement.{statement}
 use Rattle.eigen.proofs.symmetric.Tie as tie
@@ -11,14 +12,10 @@ abbrev μ-loop : tie.MeasureT-loop
 μ-loop r n a₀ j₀ a j = n - j
 
 pub symmetric-spec : {M : Type 1} → statement M
-unfolding symmetric putColumn
+unfolding symmetric
 symmetric-spec =
     tie.close
-    (tie.spec Inv-loop μ-loop
-    (λ c. search over-kit)  -- loop-holds
-    (λ c κs. search over-kit)  -- symmetric-column-requires
-    (λ c. search over-kit)  -- add-j
-    (λ c. search over-kit)  -- loop-less
-    (λ c. search over-kit)  -- loop-again
-    (λ c. search over-kit)  -- same-length
-    (λ c. search over-kit))  -- returns
+    (tie.spec Inv-loop μ-loop (λ c. search matrix-kit) (λ c κs. search matrix-kit) (λ c. search matrix-kit) (λ c. search matrix-kit)
+    (λ c. search matrix-kit)  -- loop-again
+    (λ c. search matrix-kit)
+    (λ c. search matrix-kit))  -- returns

@@ -1,5 +1,6 @@
-use Rattle.folds.specs.Kit.{_≡_, _-_, _≤_, arith, length, fold-call, kit}
+use Rattle.folds.specs.Kit.{_≡_, _-_, _≤_, arith, length}
 use Rattle.matrix.specs.Matrix.{putColumn}
+use Rattle.matrix.specs.Laws.{column-call, column-kit}
 use Rattle.eigen.specs.Eigen.{mean}
 use Rattle.eigen.proofs.symmetric_column.Statement.{statement}
 use Rattle.eigen.proofs.symmetric_column.Tie as tie
@@ -11,16 +12,15 @@ abbrev μ-loop : tie.MeasureT-loop
 μ-loop r n j a₀ i₀ a i = n - i
 
 pub symmetric-column-spec : {M : Type 1} → statement M
-unfolding putColumn mean
+unfolding mean
 symmetric-column-spec =
     tie.close
-    (tie.spec Inv-loop μ-loop
-    (λ c. search kit)  -- loop-holds
-    (λ c κs. search kit)  -- get-requires
-    (λ c κs. search kit)  -- get-requires-2
-    (λ c κs. search kit)  -- put-requires
-    (λ c. search kit)  -- add-i
-    (λ c. search kit)  -- loop-less
-    (λ c. let p = c .before .before in let at = p .before .before .before .before .before .loop in (omega arith, omega arith, fold-call _ _ _ (at .inv .2) (rw (p .put .ensures, p .before .before .get2 .ensures, p .before .before .before .get .ensures))))  -- loop-again
-    (λ c. search kit)  -- same-length
-    (λ c. search kit))  -- returns
+    (tie.spec Inv-loop μ-loop (λ c. search column-kit) (λ c κs. search column-kit) (λ c κs. search column-kit) (λ c κs. search column-kit)
+    (λ c. search column-kit) (λ c. search column-kit)
+    (λ c. let p = c .before .before in let at = p .before .before .before .before .before .loop in (
+      omega arith,
+      omega arith,
+      column-call _ _ _ _ _ (at .inv .2) (rw (p .put .ensures, p .before .before .get2 .ensures, p .before .before .before .get .ensures)),
+    ))  -- loop-again
+    (λ c. search column-kit)
+    (λ c. search column-kit))  -- returns

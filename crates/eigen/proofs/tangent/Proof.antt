@@ -7,9 +7,7 @@ pub tangent-spec : {M : Type 1} → statement M
 unfolding tangent pick
 tangent-spec =
     tie.close
-    (tie.spec
-    (λ c κs. search kit)  -- abs-requires
+    (tie.spec (λ c κs. search kit)
     (λ c. rw (← c .before .abs .ensures, c .if1 .taken))  -- returns
-    (λ c κs. search kit)  -- signum-requires
-    (λ c κs. search kit)  -- sqrt-requires
+    (λ c κs. search kit) (λ c κs. search kit)
     (λ c. rw (← c .before .before .before .abs .ensures, c .before .before .if1 .left, ← c .before .signum .ensures, ← c .sqrt .ensures)))  -- returns-2

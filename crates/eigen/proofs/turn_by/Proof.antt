@@ -7,6 +7,5 @@ pub turn-by-spec : {M : Type 1} → statement M
 unfolding turnBy
 turn-by-spec =
     tie.close
-    (tie.spec
-    (λ c κs. search kit)  -- sqrt-requires
+    (tie.spec (λ c κs. search kit)
     (λ c. rw (← c .sqrt .ensures)))  -- returns

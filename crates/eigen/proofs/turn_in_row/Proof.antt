@@ -7,10 +7,6 @@ pub turn-in-row-spec : {M : Type 1} → statement M
 unfolding turnInRow
 turn-in-row-spec =
     tie.close
-    (tie.spec
-    (λ c κs. search kit)  -- get-requires
-    (λ c κs. search kit)  -- get-requires-2
-    (λ c κs. search kit)  -- put-requires
-    (λ c κs. search kit)  -- put-requires-2
-    (λ c. search kit)  -- same-length
-    (λ c. let b = c .before .before .before .before .before .before .before .before in let g = b .before .before .before .before in rw (c .before .before .put2 .ensures, b .put .ensures, g .get2 .ensures, g .before .before .get .ensures)))  -- returns
+    (tie.spec (λ c κs. search kit) (λ c κs. search kit) (λ c κs. search kit) (λ c κs. search kit) (λ c. search kit)
+    (λ c. let b = c .before .before .before .before .before .before .before .before in let g = b .before .before .before .before in
+    rw (c .before .before .put2 .ensures, b .put .ensures, g .get2 .ensures, g .before .before .get .ensures)))  -- returns

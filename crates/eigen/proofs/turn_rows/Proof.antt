@@ -13,11 +13,7 @@ pub turn-rows-spec : {M : Type 1} → statement M
 unfolding turnRows
 turn-rows-spec =
     tie.close
-    (tie.spec Inv-loop μ-loop
-    (λ c. search kit)  -- loop-holds
-    (λ c κs. search kit)  -- turn-in-column-requires
-    (λ c. search kit)  -- add-k
-    (λ c. search kit)  -- loop-less
+    (tie.spec Inv-loop μ-loop (λ c. search kit) (λ c κs. search kit) (λ c. search kit) (λ c. search kit)
     (λ c. search kit)  -- loop-again
-    (λ c. search kit)  -- same-length
+    (λ c. search kit)
     (λ c. search kit))  -- returns

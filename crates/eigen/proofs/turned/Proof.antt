@@ -7,10 +7,6 @@ pub turned-spec : {M : Type 1} → statement M
 unfolding turned
 turned-spec =
     tie.close
-    (tie.spec
-    (λ c κs. search kit)  -- turn-columns-requires
-    (λ c κs. search kit)  -- turn-rows-requires
-    (λ c κs. search kit)  -- put-requires
-    (λ c κs. search kit)  -- put-requires-2
-    (λ c. search kit)  -- same-length
-    (λ c. let b = c .before .before in let p = b .before .before .before .before in let r = p .before .before .before .before in rw (b .put2 .ensures, p .put .ensures, r .turn-rows .ensures, r .before .before .before .before .turn-columns .ensures)))  -- returns
+    (tie.spec (λ c κs. search kit) (λ c κs. search kit) (λ c κs. search kit) (λ c κs. search kit) (λ c. search kit)
+    (λ c. let b = c .before .before in let p = b .before .before .before .before in let r = p .before .before .before .before in
+    rw (b .put2 .ensures, p .put .ensures, r .turn-rows .ensures, r .before .before .before .before .turn-columns .ensures)))  -- returns

@@ -1,4 +1,4 @@
-use Rattle.folds.specs.Kit.{_≡_, _-_, _≤_, arith, length, fold, fold-call, kit}
+use Rattle.folds.specs.Kit.{_≡_, _-_, _≤_, length, fold, kit}
 use Rattle.householder.specs.Householder.{qTrMul, qTrStep}
 use Rattle.householder.proofs.q_tr_mul.Statement.{statement}
 use Rattle.householder.proofs.q_tr_mul.Tie as tie
@@ -13,11 +13,7 @@ pub q-tr-mul-spec : {M : Type 1} → statement M
 unfolding qTrMul
 q-tr-mul-spec =
     tie.close
-    (tie.spec Inv-loop μ-loop
-    (λ c. search kit)  -- loop-holds
-    (λ c κs. search kit)  -- q-tr-step-requires
-    (λ c. search kit)  -- add-k
-    (λ c. search kit)  -- loop-less
+    (tie.spec Inv-loop μ-loop (λ c. search kit) (λ c κs. search kit) (λ c. search kit) (λ c. search kit)
     (λ c. search kit)  -- loop-again
-    (λ c. search kit)  -- same-length
+    (λ c. search kit)
     (λ c. search kit))  -- returns

@@ -14,8 +14,7 @@ pub q-tr-step-spec : {M : Type 1} → statement M
 unfolding qTrStep fromDiagonal part pick
 q-tr-step-spec =
     tie.close
-    (tie.spec
-    (λ c. search kit)  -- shared-slice-read-if1
+    (tie.spec (λ c. search kit)
     (λ c. omega (arith, ends-then c))  -- mul-s
     (λ c. omega (arith, ends-then c))  -- add-s
     (λ c. omega (arith, ends-then c))  -- mul-e
@@ -24,7 +23,6 @@ q-tr-step-spec =
     (λ c. omega (arith, ends-then c))  -- sub-reflect-columns
     (λ c. omega (arith, ends-then c))  -- part-reflect-columns-start
     (λ c. omega (arith, ends-then c))  -- part-reflect-columns-end
-    (λ c κs. search kit)  -- reflect-columns-requires
-    (λ c. search kit)  -- same-length
+    (λ c κs. search kit) (λ c. search kit)
     (λ c. let r = c .before .before in rw (r .before .before .before .if1 .taken) (r .reflect-columns .ensures))  -- returns
     (λ c. rw (c .if1 .left)))  -- returns-2

@@ -20,10 +20,8 @@ qr-column-spec =
     (λ c. omega (arith, ends (c .before)))  -- sub-reflector
     (λ c. omega (arith, ends (c .before)))  -- part-reflector-start
     (λ c. omega (arith, ends (c .before)))  -- part-reflector-end
-    (λ c. search kit)  -- sub-reflector-2
-    (λ c κs. search kit)  -- reflector-requires
-    (λ c κs. search kit)  -- reflect-rest-requires
-    (λ c. search kit)  -- same-length
-    (λ c. let f = c .before .before in let t = f .before .before in let r = t .before .before .before in rw (← r .reflector .ensures, t .if1 .taken, f .reflect-rest .ensures))  -- returns
-    (λ c. search kit)  -- same-length-2
+    (λ c. search kit) (λ c κs. search kit) (λ c κs. search kit) (λ c. search kit)
+    (λ c. let f = c .before .before in let t = f .before .before in let r = t .before .before .before in
+    rw (← r .reflector .ensures, t .if1 .taken, f .reflect-rest .ensures))  -- returns
+    (λ c. search kit)
     (λ c. rw (← c .before .before .before .reflector .ensures, c .if1 .left)))  -- returns-2

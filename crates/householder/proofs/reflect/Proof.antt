@@ -7,8 +7,6 @@ pub reflect-spec : {M : Type 1} → statement M
 unfolding factor reflect
 reflect-spec =
     tie.close
-    (tie.spec
-    (λ c κs. search kit)  -- dot-requires
-    (λ c κs. search kit)  -- sub-scaled-requires
-    (λ c. search kit)  -- same-length
-    (λ c. let s = c .before .before in let d = s .before .before in rw (s .sub-scaled .ensures, d .dot .ensures, d .before .before .before .before .pre .1)))  -- returns
+    (tie.spec (λ c κs. search kit) (λ c κs. search kit) (λ c. search kit)
+    (λ c. let s = c .before .before in let d = s .before .before in
+    rw (s .sub-scaled .ensures, d .dot .ensures, d .before .before .before .before .pre .1)))  -- returns

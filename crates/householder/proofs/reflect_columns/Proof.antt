@@ -10,7 +10,8 @@ Inv-loop v a₀ n m k lo w j₀ a j = (lo ≤ j) × (j ≤ m) × (length a ≡ l
 abbrev μ-loop : tie.MeasureT-loop
 μ-loop v a₀ n m k lo w j₀ a j = m - j
 
-ends : (c : tie.In-loop Inv-loop μ-loop) → let s = c .before .before .before .before .before in s .args .n + c .before .loop .j * s .args .n ≤ length (c .before .loop .a)
+ends : (c : tie.In-loop Inv-loop μ-loop) → let s = c .before .before .before .before .before in
+    s .args .n + c .before .loop .j * s .args .n ≤ length (c .before .loop .a)
 ends c =
     let s = c .before .before .before .before .before in
     let h : s .args .n * s .args .m ≤ length (c .before .loop .a) = omega arith in col-end _ _ (s .args .m) _ h (c .loop-test .taken)
@@ -21,9 +22,7 @@ pub reflect-columns-spec : {M : Type 1} → statement M
 unfolding reflectColumns onPart withPart part
 reflect-columns-spec =
     tie.close
-    (tie.spec Inv-loop μ-loop
-    (λ c κs. search kit)  -- dot-requires
-    (λ c. search kit)  -- loop-holds
+    (tie.spec Inv-loop μ-loop (λ c κs. search kit) (λ c. search kit)
     (λ c. omega (arith, ends c))  -- mul-b
     (λ c. omega (arith, ends c))  -- add-b
     (λ c. omega (arith, ends c))  -- mul-e
@@ -33,8 +32,8 @@ reflect-columns-spec =
     (λ c. omega (arith, ends c))  -- part-reflect-start
     (λ c. omega (arith, ends c))  -- part-reflect-end
     (λ c κs. (search kit, c .before .before .before .dot .ensures))  -- reflect-requires
-    (λ c. search kit)  -- add-j
-    (λ c. search kit)  -- loop-less
-    (λ c. let r = c .before .before in let at = r .before .before .before .loop in (omega arith, omega arith, omega arith, span-call _ _ _ _ (at .inv .0) (at .inv .3) (rw (r .reflect .ensures))))  -- loop-again
-    (λ c. search kit)  -- same-length
+    (λ c. search kit) (λ c. search kit)
+    (λ c. let r = c .before .before in let at = r .before .before .before .loop in
+    (omega arith, omega arith, omega arith, span-call _ _ _ _ (at .inv .0) (at .inv .3) (rw (r .reflect .ensures))))  -- loop-again
+    (λ c. search kit)
     (λ c. search kit))  -- returns

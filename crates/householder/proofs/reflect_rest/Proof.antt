@@ -9,10 +9,8 @@ slice-aggregate-reflect-in c = sym (length-take-le _ _ (omega arith))
 pub reflect-rest-spec : {M : Type 1} → statement M
 reflect-rest-spec =
     tie.close
-    (tie.spec
-    (λ c. search needs)  -- sub-h
-    (λ c. search needs)  -- array-borrow-prefix-v
+    (tie.spec (λ c. search needs) (λ c. search needs)
     slice-aggregate-reflect-in
     (λ c κs. omega (arith, slice-aggregate-reflect-in c))  -- reflect-in-requires
-    (λ c. search needs)  -- same-length
+    (λ c. search needs)
     (λ c. search needs))  -- returns

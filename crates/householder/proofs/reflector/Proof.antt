@@ -7,14 +7,8 @@ pub reflector-spec : {M : Type 1} → statement M
 unfolding reflector pick
 reflector-spec =
     tie.close
-    (tie.spec
-    (λ c κs. search kit)  -- zero-column-requires
-    (λ c. search kit)  -- same-length
+    (tie.spec (λ c κs. search kit) (λ c. search kit)
     (λ c. rw (← c .before .zero-column .ensures, c .if1 .taken))  -- returns
-    (λ c κs. search kit)  -- norm-requires
-    (λ c. search kit)  -- slice-read-x
-    (λ c. search kit)  -- slice-read-opposite
-    (λ c κs. search kit)  -- opposite-requires
-    (λ c. search kit)  -- slice-write-x
-    (λ c. search kit)  -- same-length-2
-    (λ c. let n = c .before .before .before in let z = n .before .before in rw (← z .before .zero-column .ensures, z .if1 .left, ← n .norm .ensures, ← c .opposite .ensures)))  -- returns-2
+    (λ c κs. search kit) (λ c. search kit) (λ c. search kit) (λ c κs. search kit) (λ c. search kit) (λ c. search kit)
+    (λ c. let n = c .before .before .before in let z = n .before .before in
+    rw (← z .before .zero-column .ensures, z .if1 .left, ← n .norm .ensures, ← c .opposite .ensures)))  -- returns-2

@@ -19,12 +19,8 @@ pub zero-column-spec : {M : Type 1} → statement M
 unfolding zeroColumn ne
 zero-column-spec =
     tie.close
-    (tie.spec Inv-loop μ-loop
-    (λ c. search kit)  -- loop-holds
-    (λ c. search kit)  -- mul-if1
-    (λ c. search kit)  -- shared-slice-read-if1
+    (tie.spec Inv-loop μ-loop (λ c. search kit) (λ c. search kit) (λ c. search kit)
     (λ c. all-stop _ _ _ (c .before .before .loop-test .taken) (not-true _ (c .if1 .taken)))  -- returns
-    (λ c. search kit)  -- add-i
-    (λ c. search kit)  -- loop-less
+    (λ c. search kit) (λ c. search kit)
     (λ c. (search kit, all-turn _ _ (c .before .before .before .loop .inv .1) (not-false _ (c .if1 .left))))  -- loop-again
     (λ c. search kit))  -- returns-2

@@ -18,4 +18,5 @@ column-spec =
     (λ c. omega arith)  -- sub-result
     (λ c. omega (arith, ends c))  -- part-result-start
     (λ c. omega (arith, ends c))  -- part-result-end
-    (λ c. let k = c .before .args in let z : k .j * k .n + k .n - k .j * k .n ≡ k .n = omega arith in rw z (part-tab nan (k .j * k .n) (k .n) (k .a .now) (omega (arith, ends (c .before))))))  -- returns
+    (λ c. let k = c .before .args in let z : k .j * k .n + k .n - k .j * k .n ≡ k .n = omega arith in
+    rw z (part-tab nan (k .j * k .n) (k .n) (k .a .now) (omega (arith, ends (c .before))))))  -- returns

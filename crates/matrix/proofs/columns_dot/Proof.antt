@@ -14,11 +14,6 @@ pub columns-dot-spec : {M : Type 1} → statement M
 unfolding columnsDot
 columns-dot-spec =
     tie.close
-    (tie.spec Inv-loop μ-loop
-    (λ c. search kit)  -- loop-holds
-    (λ c κs. search kit)  -- get-requires
-    (λ c κs. search kit)  -- get-requires-2
-    (λ c. search kit)  -- add-k
-    (λ c. search kit)  -- loop-less
+    (tie.spec Inv-loop μ-loop (λ c. search kit) (λ c κs. search kit) (λ c κs. search kit) (λ c. search kit) (λ c. search kit)
     (λ c. (omega arith, fold-call _ _ _ (c .before .before .before .loop .inv .1) (rw (c .before .get .ensures, c .get2 .ensures))))  -- loop-again
     (λ c. search kit))  -- returns

@@ -13,13 +13,8 @@ pub diagonal-spec : {M : Type 1} → statement M
 unfolding diagonal
 diagonal-spec =
     tie.close
-    (tie.spec Inv-loop μ-loop
-    (λ c. search over-kit)  -- loop-holds
-    (λ c κs. search over-kit)  -- get-requires
-    (λ c. search over-kit)  -- mul-d
-    (λ c. search over-kit)  -- slice-write-d
-    (λ c. search over-kit)  -- add-i
-    (λ c. search over-kit)  -- loop-less
+    (tie.spec Inv-loop μ-loop (λ c. search over-kit) (λ c κs. search over-kit) (λ c. search over-kit) (λ c. search over-kit) (λ c. search over-kit)
+    (λ c. search over-kit)
     (λ c. let at = c .before .before .loop in (omega arith, simp length-set (at .inv .1), fold-call _ _ _ (at .inv .2) (rw (c .get .ensures))))  -- loop-again
-    (λ c. search over-kit)  -- same-length
+    (λ c. search over-kit)
     (λ c. search over-kit))  -- returns

@@ -13,12 +13,8 @@ pub mul-column-spec : {M : Type 1} → statement M
 unfolding putColumn
 mul-column-spec =
     tie.close
-    (tie.spec Inv-loop μ-loop
-    (λ c. search kit)  -- loop-holds
-    (λ c κs. search kit)  -- cell-dot-requires
-    (λ c κs. search kit)  -- put-requires
-    (λ c. search kit)  -- add-i
-    (λ c. search kit)  -- loop-less
-    (λ c. let p = c .before .before in let at = p .before .before .before .before .loop in (omega arith, omega arith, fold-call _ _ _ (at .inv .2) (rw (p .put .ensures, p .before .before .cell-dot .ensures))))  -- loop-again
-    (λ c. search kit)  -- same-length
+    (tie.spec Inv-loop μ-loop (λ c. search kit) (λ c κs. search kit) (λ c κs. search kit) (λ c. search kit) (λ c. search kit)
+    (λ c. let p = c .before .before in let at = p .before .before .before .before .loop in
+    (omega arith, omega arith, fold-call _ _ _ (at .inv .2) (rw (p .put .ensures, p .before .before .cell-dot .ensures))))  -- loop-again
+    (λ c. search kit)
     (λ c. search kit))  -- returns

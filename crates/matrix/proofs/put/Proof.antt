@@ -13,5 +13,5 @@ put-spec =
     (λ c. omega (arith, in-range c))  -- add-a
     (λ c. omega (arith, in-range c))  -- mul-a-2
     (λ c. omega (arith, in-range c))  -- slice-write-a
-    (λ c. search needs)  -- same-length
+    (λ c. search needs)
     (λ c. search needs))  -- returns

@@ -13,13 +13,10 @@ pub select-columns-spec : {M : Type 1} → statement M
 unfolding selectColumns putColumn
 select-columns-spec =
     tie.close
-    (tie.spec Inv-loop μ-loop
-    (λ c. search over-kit)  -- loop-holds
-    (λ c. search over-kit)  -- mul-copy-column
-    (λ c. search over-kit)  -- shared-slice-read-copy-column
+    (tie.spec Inv-loop μ-loop (λ c. search over-kit) (λ c. search over-kit) (λ c. search over-kit)
     (λ c κs. omega (arith, c .before .before .before .before .before .before .before .pre .2 _ (c .before .before .loop-test .taken)))  -- copy-column-requires
-    (λ c. search over-kit)  -- add-j
-    (λ c. search over-kit)  -- loop-less
-    (λ c. let p = c .before .before in let at = p .before .before .before .before .loop in (omega arith, omega arith, fold-call _ _ _ (at .inv .2) (p .copy-column .ensures)))  -- loop-again
-    (λ c. search over-kit)  -- same-length
+    (λ c. search over-kit) (λ c. search over-kit)
+    (λ c. let p = c .before .before in let at = p .before .before .before .before .loop in
+    (omega arith, omega arith, fold-call _ _ _ (at .inv .2) (p .copy-column .ensures)))  -- loop-again
+    (λ c. search over-kit)
     (λ c. search over-kit))  -- returns

@@ -13,14 +13,10 @@ pub select-rows-column-spec : {M : Type 1} → statement M
 unfolding putColumn
 select-rows-column-spec =
     tie.close
-    (tie.spec Inv-loop μ-loop
-    (λ c. search kit)  -- loop-holds
-    (λ c. search kit)  -- mul-get
-    (λ c. search kit)  -- shared-slice-read-get
+    (tie.spec Inv-loop μ-loop (λ c. search kit) (λ c. search kit) (λ c. search kit)
     (λ c κs. omega (arith, c .before .before .before .before .before .before .pre .2 _ (c .before .loop-test .taken)))  -- get-requires
-    (λ c κs. search kit)  -- put-requires
-    (λ c. search kit)  -- add-i
-    (λ c. search kit)  -- loop-less
-    (λ c. let p = c .before .before in let at = p .before .before .before .before .before .loop in (omega arith, omega arith, fold-call _ _ _ (at .inv .2) (rw (p .put .ensures, p .before .before .get .ensures))))  -- loop-again
-    (λ c. search kit)  -- same-length
+    (λ c κs. search kit) (λ c. search kit) (λ c. search kit)
+    (λ c. let p = c .before .before in let at = p .before .before .before .before .before .loop in
+    (omega arith, omega arith, fold-call _ _ _ (at .inv .2) (rw (p .put .ensures, p .before .before .get .ensures))))  -- loop-again
+    (λ c. search kit)
     (λ c. search kit))  -- returns

@@ -13,11 +13,7 @@ pub tr-mul-spec : {M : Type 1} → statement M
 unfolding trMul putColumn
 tr-mul-spec =
     tie.close
-    (tie.spec Inv-loop μ-loop
-    (λ c. search over-kit)  -- loop-holds
-    (λ c κs. search over-kit)  -- tr-mul-column-requires
-    (λ c. search over-kit)  -- add-j
-    (λ c. search over-kit)  -- loop-less
+    (tie.spec Inv-loop μ-loop (λ c. search over-kit) (λ c κs. search over-kit) (λ c. search over-kit) (λ c. search over-kit)
     (λ c. search over-kit)  -- loop-again
-    (λ c. search over-kit)  -- same-length
+    (λ c. search over-kit)
     (λ c. search over-kit))  -- returns

@@ -13,13 +13,9 @@ pub tr-mul-vec-spec : {M : Type 1} → statement M
 unfolding trMulVec
 tr-mul-vec-spec =
     tie.close
-    (tie.spec Inv-loop μ-loop
-    (λ c. search over-kit)  -- loop-holds
-    (λ c κs. search over-kit)  -- column-dot-requires
-    (λ c. search over-kit)  -- mul-y
-    (λ c. search over-kit)  -- slice-write-y
-    (λ c. search over-kit)  -- add-j
-    (λ c. search over-kit)  -- loop-less
-    (λ c. let at = c .before .before .loop in (omega arith, simp length-set (at .inv .1), fold-call _ _ _ (at .inv .2) (rw (c .column-dot .ensures))))  -- loop-again
-    (λ c. search over-kit)  -- same-length
+    (tie.spec Inv-loop μ-loop (λ c. search over-kit) (λ c κs. search over-kit) (λ c. search over-kit) (λ c. search over-kit) (λ c. search over-kit)
+    (λ c. search over-kit)
+    (λ c. let at = c .before .before .loop in
+    (omega arith, simp length-set (at .inv .1), fold-call _ _ _ (at .inv .2) (rw (c .column-dot .ensures))))  -- loop-again
+    (λ c. search over-kit)
     (λ c. search over-kit))  -- returns

@@ -14,10 +14,6 @@ pub trace-spec : {M : Type 1} → statement M
 unfolding trace
 trace-spec =
     tie.close
-    (tie.spec Inv-loop μ-loop
-    (λ c. search kit)  -- loop-holds
-    (λ c κs. search kit)  -- get-requires
-    (λ c. search kit)  -- add-i
-    (λ c. search kit)  -- loop-less
+    (tie.spec Inv-loop μ-loop (λ c. search kit) (λ c κs. search kit) (λ c. search kit) (λ c. search kit)
     (λ c. (omega arith, fold-call _ _ _ (c .before .before .loop .inv .1) (rw (c .get .ensures))))  -- loop-again
     (λ c. search kit))  -- returns

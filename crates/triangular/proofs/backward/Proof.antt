@@ -13,13 +13,7 @@ pub backward-spec : {M : Type 1} → statement M
 unfolding backward
 backward-spec =
     tie.close
-    (tie.spec Inv-loop μ-loop
-    (λ c. search kit)  -- loop-holds
-    (λ c. search kit)  -- sub-back-step
-    (λ c. search kit)  -- sub-back-step-2
-    (λ c κs. search kit)  -- unknown-back-requires
-    (λ c. search kit)  -- add-t
-    (λ c. search kit)  -- loop-less
+    (tie.spec Inv-loop μ-loop (λ c. search kit) (λ c. search kit) (λ c. search kit) (λ c κs. search kit) (λ c. search kit) (λ c. search kit)
     (λ c. search kit)  -- loop-again
-    (λ c. search kit)  -- same-length
+    (λ c. search kit)
     (λ c. search kit))  -- returns

@@ -15,15 +15,13 @@ pub factor-below-spec : {M : Type 1} → statement M
 unfolding factorBelow factorEntry
 factor-below-spec =
     tie.close
-    (tie.spec Inv-loop μ-loop
-    (λ c κs. search kit)  -- put-requires
-    (λ c. search kit)  -- add-i
-    (λ c. search kit)  -- loop-holds
-    (λ c κs. search kit)  -- rows-requires
-    (λ c κs. search kit)  -- get-requires
-    (λ c κs. search kit)  -- put-requires-2
-    (λ c. search kit)  -- add-i-2
-    (λ c. search kit)  -- loop-less
-    (λ c. let b = c .before .before .before .before in let at = b .before .before .before .before .before .loop in (omega arith, omega arith, omega arith, span-call _ _ _ _ (at .inv .0) (at .inv .3) (rw (c .before .before .put2 .ensures, b .get .ensures, b .before .before .rows-dot .ensures))))  -- loop-again
-    (λ c. search kit)  -- same-length
+    (tie.spec Inv-loop μ-loop (λ c κs. search kit) (λ c. search kit) (λ c. search kit) (λ c κs. search kit) (λ c κs. search kit) (λ c κs. search kit)
+    (λ c. search kit) (λ c. search kit)
+    (λ c. let b = c .before .before .before .before in let at = b .before .before .before .before .before .loop in (
+      omega arith,
+      omega arith,
+      omega arith,
+      span-call _ _ _ _ (at .inv .0) (at .inv .3) (rw (c .before .before .put2 .ensures, b .get .ensures, b .before .before .rows-dot .ensures)),
+    ))  -- loop-again
+    (λ c. search kit)
     (λ c. rw (← c .before .before .before .before .put .ensures) (search kit)))  -- returns

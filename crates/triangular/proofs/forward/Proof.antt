@@ -13,16 +13,9 @@ pub forward-spec : {M : Type 1} → statement M
 unfolding forward unknown
 forward-spec =
     tie.close
-    (tie.spec Inv-loop μ-loop
-    (λ c. search kit)  -- loop-holds
-    (λ c κs. search kit)  -- known-requires
-    (λ c. search kit)  -- mul-x
-    (λ c. search kit)  -- slice-read-x
-    (λ c κs. search kit)  -- get-requires
-    (λ c. search kit)  -- mul-x-2
-    (λ c. search kit)  -- slice-write-x
-    (λ c. search kit)  -- add-i
-    (λ c. search kit)  -- loop-less
-    (λ c. let at = c .before .before .before .before .before .loop in (omega arith, simp length-set (at .inv .1), fold-call _ _ _ (at .inv .2) (rw (c .get .ensures, c .before .before .known .ensures))))  -- loop-again
-    (λ c. search kit)  -- same-length
+    (tie.spec Inv-loop μ-loop (λ c. search kit) (λ c κs. search kit) (λ c. search kit) (λ c. search kit) (λ c κs. search kit) (λ c. search kit)
+    (λ c. search kit) (λ c. search kit) (λ c. search kit)
+    (λ c. let at = c .before .before .before .before .before .loop in
+    (omega arith, simp length-set (at .inv .1), fold-call _ _ _ (at .inv .2) (rw (c .get .ensures, c .before .before .known .ensures))))  -- loop-again
+    (λ c. search kit)
     (λ c. search kit))  -- returns

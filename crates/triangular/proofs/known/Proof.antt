@@ -13,12 +13,6 @@ pub known-spec : {M : Type 1} → statement M
 unfolding known
 known-spec =
     tie.close
-    (tie.spec Inv-loop μ-loop
-    (λ c. search kit)  -- loop-holds
-    (λ c κs. search kit)  -- get-requires
-    (λ c. search kit)  -- mul-s
-    (λ c. search kit)  -- shared-slice-read-s
-    (λ c. search kit)  -- add-j
-    (λ c. search kit)  -- loop-less
+    (tie.spec Inv-loop μ-loop (λ c. search kit) (λ c κs. search kit) (λ c. search kit) (λ c. search kit) (λ c. search kit) (λ c. search kit)
     (λ c. (omega arith, fold-call _ _ _ (c .before .before .before .loop .inv .1) (rw (c .before .get .ensures))))  -- loop-again
     (λ c. search kit))  -- returns

@@ -15,13 +15,8 @@ pub known-below-spec : {M : Type 1} → statement M
 unfolding knownBelow
 known-below-spec =
     tie.close
-    (tie.spec Inv-loop μ-loop
-    (λ c. search kit)  -- add-j
-    (λ c. search kit)  -- loop-holds
-    (λ c κs. search kit)  -- get-requires
-    (λ c. search kit)  -- mul-s
-    (λ c. search kit)  -- shared-slice-read-s
-    (λ c. search kit)  -- add-j-2
-    (λ c. search kit)  -- loop-less
-    (λ c. let at = c .before .before .before .loop .inv in (omega arith, omega arith, span-call _ _ _ _ (at .0) (at .2) (rw (c .before .get .ensures))))  -- loop-again
+    (tie.spec Inv-loop μ-loop (λ c. search kit) (λ c. search kit) (λ c κs. search kit) (λ c. search kit) (λ c. search kit) (λ c. search kit)
+    (λ c. search kit)
+    (λ c. let at = c .before .before .before .loop .inv in
+    (omega arith, omega arith, span-call _ _ _ _ (at .0) (at .2) (rw (c .before .get .ensures))))  -- loop-again
     (λ c. search kit))  -- returns

@@ -20,11 +20,8 @@ pub regular-spec : {M : Type 1} → statement M
 unfolding regular
 regular-spec =
     tie.close
-    (tie.spec Inv-loop μ-loop
-    (λ c. search kit)  -- loop-holds
-    (λ c κs. search kit)  -- get-requires
+    (tie.spec Inv-loop μ-loop (λ c. search kit) (λ c κs. search kit)
     (λ c. all-stop _ _ _ (c .before .before .loop-test .taken) (rw (← c .before .get .ensures, c .if1 .taken)))  -- returns
-    (λ c. search kit)  -- add-i
-    (λ c. search kit)  -- loop-less
+    (λ c. search kit) (λ c. search kit)
     (λ c. (search kit, all-turn _ _ (c .before .before .before .loop .inv .1) (rw (← c .before .get .ensures, c .if1 .left))))  -- loop-again
     (λ c. search kit))  -- returns-2

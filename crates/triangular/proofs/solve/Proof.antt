@@ -7,8 +7,5 @@ pub solve-spec : {M : Type 1} → statement M
 unfolding solve
 solve-spec =
     tie.close
-    (tie.spec
-    (λ c κs. search kit)  -- forward-requires
-    (λ c κs. search kit)  -- backward-requires
-    (λ c. search kit)  -- same-length
+    (tie.spec (λ c κs. search kit) (λ c κs. search kit) (λ c. search kit)
     (λ c. let b = c .before .before in rw (b .backward .ensures, b .before .before .before .before .forward .ensures)))  -- returns

@@ -19,5 +19,5 @@ solve-column-spec =
     (λ c. omega (arith, ends (c .before .before)))  -- part-solve-lower-triangular-start
     (λ c. omega (arith, ends (c .before .before)))  -- part-solve-lower-triangular-end
     (λ c κs. omega (arith, ends (c .before .before .before)))  -- solve-lower-triangular-requires
-    (λ c. search kit)  -- same-length
+    (λ c. search kit)
     (λ c. rw (← c .before .before .solve-lower-triangular .ensures)))  -- returns

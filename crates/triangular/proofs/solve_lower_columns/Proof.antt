@@ -16,13 +16,11 @@ pub solve-lower-columns-spec : {M : Type 1} → statement M
 unfolding solveLowerColumns
 solve-lower-columns-spec =
     tie.close
-    (tie.spec Inv-loop μ-loop
-    (λ c. search kit)  -- loop-holds
-    (λ c κs. search kit)  -- solve-column-requires
-    (λ c. search kit)  -- same-length
-    (λ c. let at = c .before .before .before .before .before .before .loop in let ok = c .before .before .before .solve-column .result in walk-stop _ _ _ _ (c .before .before .before .before .before .loop-test .taken) (at .inv .2) (cc (not-true ok (c .if1 .taken))))  -- returns
-    (λ c. search kit)  -- add-j
-    (λ c. search kit)  -- loop-less
-    (λ c. let at = c .before .before .before .before .before .before .loop in let ok = c .before .before .before .solve-column .result in (search needs, search needs, walk-call _ _ _ (at .inv .2) (cc (not-false ok (c .if1 .left)))))  -- loop-again
-    (λ c. search kit)  -- same-length-2
+    (tie.spec Inv-loop μ-loop (λ c. search kit) (λ c κs. search kit) (λ c. search kit)
+    (λ c. let at = c .before .before .before .before .before .before .loop in let ok = c .before .before .before .solve-column .result in
+    walk-stop _ _ _ _ (c .before .before .before .before .before .loop-test .taken) (at .inv .2) (cc (not-true ok (c .if1 .taken))))  -- returns
+    (λ c. search kit) (λ c. search kit)
+    (λ c. let at = c .before .before .before .before .before .before .loop in let ok = c .before .before .before .solve-column .result in
+    (search needs, search needs, walk-call _ _ _ (at .inv .2) (cc (not-false ok (c .if1 .left)))))  -- loop-again
+    (λ c. search kit)
     (λ c. search kit))  -- returns-2

@@ -7,9 +7,6 @@ pub solve-lower-triangular-spec : {M : Type 1} → statement M
 unfolding solveLower pick
 solve-lower-triangular-spec =
     tie.close
-    (tie.spec
-    (λ c κs. search kit)  -- regular-requires
-    (λ c κs. search kit)  -- forward-requires
-    (λ c. search kit)  -- same-length
+    (tie.spec (λ c κs. search kit) (λ c κs. search kit) (λ c. search kit)
     (λ c. let f = c .before .before in let t = f .before .before in rw (← t .before .regular .ensures, t .if1 .taken, f .forward .ensures))  -- returns
     (λ c. rw (← c .before .regular .ensures, c .if1 .left)))  -- returns-2

@@ -7,7 +7,5 @@ pub under-root-spec : {M : Type 1} → statement M
 unfolding underRoot
 under-root-spec =
     tie.close
-    (tie.spec
-    (λ c κs. search kit)  -- get-requires
-    (λ c κs. search kit)  -- rows-requires
+    (tie.spec (λ c κs. search kit) (λ c κs. search kit)
     (λ c. cc))  -- returns

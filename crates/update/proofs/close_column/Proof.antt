@@ -1,5 +1,6 @@
-use Rattle.folds.specs.Kit.{_≡_, _-_, _≤_, arith, length, fold-call, kit}
+use Rattle.folds.specs.Kit.{_≡_, _-_, _≤_, arith, length}
 use Rattle.matrix.specs.Matrix.{putColumn}
+use Rattle.matrix.specs.Laws.{column-call, column-kit}
 use Rattle.update.specs.Update.{closedEntry}
 use Rattle.update.proofs.close_column.Statement.{statement}
 use Rattle.update.proofs.close_column.Tie as tie
@@ -11,19 +12,15 @@ abbrev μ-loop : tie.MeasureT-loop
 μ-loop old n p j l₀ b i₀ l i = n - i
 
 pub close-column-spec : {M : Type 1} → statement M
-unfolding putColumn closedEntry
+unfolding closedEntry
 close-column-spec =
     tie.close
-    (tie.spec Inv-loop μ-loop
-    (λ c κs. search kit)  -- staying-requires
-    (λ c. search kit)  -- loop-holds
-    (λ c κs. search kit)  -- staying-requires-2
-    (λ c. search kit)  -- add-get
-    (λ c. search kit)  -- add-get-2
-    (λ c κs. search kit)  -- get-requires
-    (λ c κs. search kit)  -- put-requires
-    (λ c. search kit)  -- add-i
-    (λ c. search kit)  -- loop-less
-    (λ c. let p = c .before .before in let g = p .before .before in let s = g .before in let at = s .before .before in (omega arith, omega arith, fold-call _ _ _ (at .loop .inv .2) (rw (p .put .ensures, g .get .ensures, s .staying2 .ensures .0, at .before .staying .ensures .0))))  -- loop-again
-    (λ c. search kit)  -- same-length
-    (λ c. search kit))  -- returns
+    (tie.spec Inv-loop μ-loop (λ c κs. search column-kit) (λ c. search column-kit) (λ c κs. search column-kit) (λ c. search column-kit)
+    (λ c. search column-kit) (λ c κs. search column-kit) (λ c κs. search column-kit) (λ c. search column-kit) (λ c. search column-kit)
+    (λ c. let p = c .before .before in let g = p .before .before in let s = g .before in let at = s .before .before in (
+      omega arith,
+      omega arith,
+      column-call _ _ _ _ _ (at .loop .inv .2) (rw (p .put .ensures, g .get .ensures, s .staying2 .ensures .0, at .before .staying .ensures .0)),
+    ))  -- loop-again
+    (λ c. search column-kit)
+    (λ c. search column-kit))  -- returns

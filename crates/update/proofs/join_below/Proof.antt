@@ -15,20 +15,9 @@ pub join-below-spec : {M : Type 1} → statement M
 unfolding joinBelow
 join-below-spec =
     tie.close
-    (tie.spec Inv-loop μ-loop
-    (λ c. search kit)  -- add-i
-    (λ c. search kit)  -- add-i-end
-    (λ c. search kit)  -- loop-holds
-    (λ c. search kit)  -- sub-known
-    (λ c κs. search kit)  -- known-requires
-    (λ c. search kit)  -- mul-x
-    (λ c. search kit)  -- slice-read-x
-    (λ c. search kit)  -- mul-x-2
-    (λ c. search kit)  -- slice-read-x-2
-    (λ c. search kit)  -- mul-x-3
-    (λ c. search kit)  -- slice-write-x
-    (λ c. search kit)  -- add-i-2
-    (λ c. search kit)  -- loop-less
-    (λ c. let k = c .before .before in let at = k .before .before .before .loop .inv in (omega arith, omega arith, simp length-set (at .2), span-call _ _ _ _ (at .0) (at .3) (rw (k .known .ensures))))  -- loop-again
-    (λ c. search kit)  -- same-length
+    (tie.spec Inv-loop μ-loop (λ c. search kit) (λ c. search kit) (λ c. search kit) (λ c. search kit) (λ c κs. search kit) (λ c. search kit)
+    (λ c. search kit) (λ c. search kit) (λ c. search kit) (λ c. search kit) (λ c. search kit) (λ c. search kit) (λ c. search kit)
+    (λ c. let k = c .before .before in let at = k .before .before .before .loop .inv in
+    (omega arith, omega arith, simp length-set (at .2), span-call _ _ _ _ (at .0) (at .3) (rw (k .known .ensures))))  -- loop-again
+    (λ c. search kit)
     (λ c. search kit))  -- returns

@@ -8,14 +8,13 @@ pub joined-entry-spec : {M : Type 1} → statement M
 unfolding joinedEntry pick
 joined-entry-spec =
     tie.close
-    (tie.spec
-    (λ c. search kit)  -- mul-result
-    (λ c. search kit)  -- shared-slice-read-result
+    (tie.spec (λ c. search kit) (λ c. search kit)
     (λ c. rw (eq-eqb _ _ (c .before .if1 .taken)))  -- returns
-    (λ c. search kit)  -- mul-result-2
-    (λ c. search kit)  -- shared-slice-read-result-2
+    (λ c. search kit) (λ c. search kit)
     (λ c. rw (ne-eqb _ _ (c .before .before .if1 .left), eq-eqb _ _ (c .before .if2 .taken)))  -- returns-2
     (λ c κs. (omega arith, omega arith, c .before .if1 .left))  -- standing-requires
     (λ c κs. (omega arith, omega arith, c .before .if2 .left))  -- standing-requires-2
-    (λ c κs. search kit)  -- get-requires
-    (λ c. let s = c .before .before in rw (ne-eqb _ _ (s .before .before .if1 .left), ne-eqb _ _ (s .before .if2 .left), ← s .standing .ensures .0, ← c .before .standing2 .ensures .0) (c .get .ensures)))  -- returns-3
+    (λ c κs. search kit)
+    (λ c. let s = c .before .before in
+    rw (ne-eqb _ _ (s .before .before .if1 .left), ne-eqb _ _ (s .before .if2 .left), ← s .standing .ensures .0, ← c .before .standing2 .ensures .0)
+    (c .get .ensures)))  -- returns-3

@@ -7,9 +7,6 @@ pub joining-spec : {M : Type 1} → statement M
 unfolding joining
 joining-spec =
     tie.close
-    (tie.spec
-    (λ c κs. search kit)  -- forward-requires
-    (λ c κs. search kit)  -- join-diagonal-requires
-    (λ c κs. search kit)  -- join-below-requires
-    (λ c. search kit)  -- same-length
-    (λ c. let b = c .before .before in let d = b .before .before .before .before in rw (b .join-below .ensures, d .join-diagonal .ensures, d .before .before .before .before .forward .ensures)))  -- returns
+    (tie.spec (λ c κs. search kit) (λ c κs. search kit) (λ c κs. search kit) (λ c. search kit)
+    (λ c. let b = c .before .before in let d = b .before .before .before .before in
+    rw (b .join-below .ensures, d .join-diagonal .ensures, d .before .before .before .before .forward .ensures)))  -- returns

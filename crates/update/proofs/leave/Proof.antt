@@ -7,10 +7,6 @@ pub leave-spec : {M : Type 1} → statement M
 unfolding leave
 leave-spec =
     tie.close
-    (tie.spec
-    (λ c κs. search kit)  -- removed-requires
-    (λ c κs. search kit)  -- close-requires
-    (λ c κs. search kit)  -- rank-one-requires
-    (λ c. search kit)  -- same-length
-    (λ c. search kit)  -- same-length-2
-    (λ c. let r = c .before .before .before .before in let s = r .before .before .before .before .before in let v = s .before .before .before .before in rw (← s .close .ensures, ← v .removed .ensures) (ap factorOf (r .rank-one .ensures))))  -- returns
+    (tie.spec (λ c κs. search kit) (λ c κs. search kit) (λ c κs. search kit) (λ c. search kit) (λ c. search kit)
+    (λ c. let r = c .before .before .before .before in let s = r .before .before .before .before .before in
+    let v = s .before .before .before .before in rw (← s .close .ensures, ← v .removed .ensures) (ap factorOf (r .rank-one .ensures))))  -- returns

@@ -7,11 +7,5 @@ pub new-diagonal-spec : {M : Type 1} → statement M
 unfolding newDiagonal
 new-diagonal-spec =
     tie.close
-    (tie.spec
-    (λ c κs. search kit)  -- get-requires
-    (λ c. search kit)  -- mul-root
-    (λ c. search kit)  -- shared-slice-read-root
-    (λ c. search kit)  -- mul-root-2
-    (λ c. search kit)  -- shared-slice-read-root-2
-    (λ c κs. search kit)  -- root-requires
+    (tie.spec (λ c κs. search kit) (λ c. search kit) (λ c. search kit) (λ c. search kit) (λ c. search kit) (λ c κs. search kit)
     (λ c. rw (c .sqrt .ensures, c .before .before .before .get .ensures)))  -- returns

@@ -7,13 +7,7 @@ pub rank-column-spec : {M : Type 1} → statement M
 unfolding rankColumn
 rank-column-spec =
     tie.close
-    (tie.spec
-    (λ c κs. search kit)  -- get-requires
-    (λ c κs. search kit)  -- new-diagonal-requires
-    (λ c. search kit)  -- mul-t
-    (λ c. search kit)  -- slice-read-t
-    (λ c κs. search kit)  -- put-requires
-    (λ c κs. search kit)  -- rank-rows-requires
-    (λ c. search kit)  -- same-length
-    (λ c. search kit)  -- same-length-2
-    (λ c. let r = c .before .before .before .before in let p = r .before .before .before .before .before in let d = p .before .before .before in rw (← d .before .before .before .get .ensures, ← d .new-diagonal .ensures, ← p .put .ensures) (r .rank-rows .ensures)))  -- returns
+    (tie.spec (λ c κs. search kit) (λ c κs. search kit) (λ c. search kit) (λ c. search kit) (λ c κs. search kit) (λ c κs. search kit)
+    (λ c. search kit) (λ c. search kit)
+    (λ c. let r = c .before .before .before .before in let p = r .before .before .before .before .before in let d = p .before .before .before in
+    rw (← d .before .before .before .get .ensures, ← d .new-diagonal .ensures, ← p .put .ensures) (r .rank-rows .ensures)))  -- returns

@@ -15,13 +15,8 @@ pub removed-spec : {M : Type 1} → statement M
 unfolding removed
 removed-spec =
     tie.close
-    (tie.spec Inv-loop μ-loop
-    (λ c. search kit)  -- loop-holds
-    (λ c κs. search kit)  -- removed-entry-requires
-    (λ c. search kit)  -- mul-v
-    (λ c. search kit)  -- slice-write-v
-    (λ c. search kit)  -- add-i
-    (λ c. search kit)  -- loop-less
-    (λ c. let at = c .before .before .loop in (omega arith, simp length-set (at .inv .1), fold-call _ _ _ (at .inv .2) (rw (c .removed-entry .ensures))))  -- loop-again
-    (λ c. search kit)  -- same-length
+    (tie.spec Inv-loop μ-loop (λ c. search kit) (λ c κs. search kit) (λ c. search kit) (λ c. search kit) (λ c. search kit) (λ c. search kit)
+    (λ c. let at = c .before .before .loop in
+    (omega arith, simp length-set (at .inv .1), fold-call _ _ _ (at .inv .2) (rw (c .removed-entry .ensures))))  -- loop-again
+    (λ c. search kit)
     (λ c. search kit))  -- returns

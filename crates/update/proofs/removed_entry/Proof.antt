@@ -10,8 +10,5 @@ removed-entry-spec =
     tie.close
     (tie.spec
     (λ c. rw (lt-ltb _ _ (c .if1 .taken)))  -- returns
-    (λ c. search kit)  -- add-get
-    (λ c. search kit)  -- add-get-2
-    (λ c. search kit)  -- add-get-3
-    (λ c κs. search kit)  -- get-requires
+    (λ c. search kit) (λ c. search kit) (λ c. search kit) (λ c κs. search kit)
     (λ c. rw (le-ltb _ _ (c .before .if1 .left)) (c .get .ensures)))  -- returns-2

@@ -10,5 +10,5 @@ staying-spec =
     tie.close
     (tie.spec
     (λ c. (rw (lt-ltb _ _ (c .if1 .taken)), omega arith))  -- returns
-    (λ c. search needs)  -- add-result
+    (λ c. search needs)
     (λ c. (rw (le-ltb _ _ (c .if1 .left)), omega arith)))  -- returns-2

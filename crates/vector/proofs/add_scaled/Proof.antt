@@ -15,16 +15,9 @@ pub add-scaled-spec : {M : Type 1} → statement M
 unfolding addScaled
 add-scaled-spec =
     tie.close
-    (tie.spec Inv-loop μ-loop
-    (λ c. search kit)  -- loop-holds
-    (λ c. search kit)  -- mul-y
-    (λ c. search kit)  -- slice-read-y
-    (λ c. search kit)  -- mul-y-2
-    (λ c. search kit)  -- shared-slice-read-y
-    (λ c. search kit)  -- mul-y-3
-    (λ c. search kit)  -- slice-write-y
-    (λ c. search kit)  -- add-k
-    (λ c. search kit)  -- loop-less
+    (tie.spec Inv-loop μ-loop (λ c. search kit) (λ c. search kit) (λ c. search kit) (λ c. search kit) (λ c. search kit) (λ c. search kit)
+    (λ c. search kit) (λ c. search kit) (λ c. search kit)
     (λ c. search kit)  -- loop-again
-    (λ c. search kit)  -- same-length
-    (λ c. over-edit nan (c .before .loop .k) _ (λ i v. fadd v (fmul (at (c .before .before .args .x .now) i) (c .before .before .args .by))) _ (omega arith) (omega arith) (omega arith) (c .before .loop .inv .2)))  -- returns
+    (λ c. search kit)
+    (λ c. over-edit nan (c .before .loop .k) _ (λ i v. fadd v (fmul (at (c .before .before .args .x .now) i) (c .before .before .args .by))) _
+    (omega arith) (omega arith) (omega arith) (c .before .loop .inv .2)))  -- returns

@@ -17,13 +17,11 @@ pub all-finite-spec : {M : Type 1} → statement M
 unfolding allFinite
 all-finite-spec =
     tie.close
-    (tie.spec Inv-loop μ-loop
-    (λ c. search kit)  -- loop-holds
-    (λ c. search kit)  -- mul-is-finite
-    (λ c. search kit)  -- shared-slice-read-is-finite
-    (λ c κs. search kit)  -- is-finite-requires
+    (tie.spec Inv-loop μ-loop (λ c. search kit) (λ c. search kit) (λ c. search kit) (λ c κs. search kit)
     (λ c. all-stop _ _ _ (c .before .before .before .loop-test .taken) (sym (c .before .is-finite .ensures) ∙ not-true _ (c .if1 .taken)))  -- returns
-    (λ c. search kit)  -- add-k
-    (λ c. search kit)  -- loop-less
-    (λ c. (omega arith, all-turn _ _ (c .before .before .before .before .loop .inv .1) (sym (c .before .is-finite .ensures) ∙ not-false _ (c .if1 .left))))  -- loop-again
+    (λ c. search kit) (λ c. search kit)
+    (λ c. (
+      omega arith,
+      all-turn _ _ (c .before .before .before .before .loop .inv .1) (sym (c .before .is-finite .ensures) ∙ not-false _ (c .if1 .left)),
+    ))  -- loop-again
     (λ c. search kit))  -- returns-2

@@ -13,13 +13,7 @@ pub amax-spec : {M : Type 1} → statement M
 unfolding amax
 amax-spec =
     tie.close
-    (tie.spec Inv-loop μ-loop
-    (λ c. search kit)  -- loop-holds
-    (λ c. search kit)  -- mul-abs
-    (λ c. search kit)  -- shared-slice-read-abs
-    (λ c κs. search kit)  -- abs-requires
-    (λ c κs. search kit)  -- max-requires
-    (λ c. search kit)  -- add-k
-    (λ c. search kit)  -- loop-less
+    (tie.spec Inv-loop μ-loop (λ c. search kit) (λ c. search kit) (λ c. search kit) (λ c κs. search kit) (λ c κs. search kit) (λ c. search kit)
+    (λ c. search kit)
     (λ c. (omega arith, fold-call _ _ _ (c .before .before .before .before .loop .inv .1) (rw (c .max .ensures, c .before .abs .ensures))))  -- loop-again
     (λ c. search kit))  -- returns

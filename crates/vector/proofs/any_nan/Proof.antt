@@ -16,13 +16,8 @@ pub any-nan-spec : {M : Type 1} → statement M
 unfolding anyNan
 any-nan-spec =
     tie.close
-    (tie.spec Inv-loop μ-loop
-    (λ c. search kit)  -- loop-holds
-    (λ c. search kit)  -- mul-is-nan
-    (λ c. search kit)  -- shared-slice-read-is-nan
-    (λ c κs. search kit)  -- is-nan-requires
+    (tie.spec Inv-loop μ-loop (λ c. search kit) (λ c. search kit) (λ c. search kit) (λ c κs. search kit)
     (λ c. some-stop _ _ _ (c .before .before .before .loop-test .taken) (sym (c .before .is-nan .ensures) ∙ c .if1 .taken))  -- returns
-    (λ c. search kit)  -- add-k
-    (λ c. search kit)  -- loop-less
+    (λ c. search kit) (λ c. search kit)
     (λ c. (omega arith, some-turn _ _ (c .before .before .before .before .loop .inv .1) (sym (c .before .is-nan .ensures) ∙ c .if1 .left)))  -- loop-again
     (λ c. search kit))  -- returns-2

@@ -4,22 +4,16 @@ use Rattle.vector.proofs.dot.Statement.{statement}
 use Rattle.vector.proofs.dot.Tie as tie
 
 abbrev Inv-loop : tie.InvT-loop
-Inv-loop a b n s₀ k₀ s k = (k ≤ n) × (s ≡ dot k a b)
+Inv-loop a b n sum₀ i₀ sum i = (i ≤ n) × (sum ≡ dot i a b)
 
 abbrev μ-loop : tie.MeasureT-loop
-μ-loop a b n s₀ k₀ s k = n - k
+μ-loop a b n sum₀ i₀ sum i = n - i
 
 pub dot-spec : {M : Type 1} → statement M
 unfolding dot
 dot-spec =
     tie.close
-    (tie.spec Inv-loop μ-loop
-    (λ c. search kit)  -- loop-holds
-    (λ c. search kit)  -- mul-s
-    (λ c. search kit)  -- shared-slice-read-s
-    (λ c. search kit)  -- mul-s-2
-    (λ c. search kit)  -- shared-slice-read-s-2
-    (λ c. search kit)  -- add-k
-    (λ c. search kit)  -- loop-less
+    (tie.spec Inv-loop μ-loop (λ c. search kit) (λ c. search kit) (λ c. search kit) (λ c. search kit) (λ c. search kit) (λ c. search kit)
+    (λ c. search kit)
     (λ c. search kit)  -- loop-again
     (λ c. search kit))  -- returns

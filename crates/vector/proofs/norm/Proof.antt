@@ -7,7 +7,5 @@ pub norm-spec : {M : Type 1} → statement M
 unfolding norm
 norm-spec =
     tie.close
-    (tie.spec
-    (λ c κs. search needs)  -- sum-squares-requires
-    (λ c κs. search needs)  -- sqrt-requires
+    (tie.spec (λ c κs. search needs) (λ c κs. search needs)
     (λ c. rw (c .sqrt .ensures, c .before .sum-squares .ensures)))  -- returns

@@ -13,11 +13,6 @@ pub quotient-squares-spec : {M : Type 1} → statement M
 unfolding quotientSquares
 quotient-squares-spec =
     tie.close
-    (tie.spec Inv-loop μ-loop
-    (λ c. search kit)  -- loop-holds
-    (λ c. search kit)  -- mul-q
-    (λ c. search kit)  -- shared-slice-read-q
-    (λ c. search kit)  -- add-k
-    (λ c. search kit)  -- loop-less
+    (tie.spec Inv-loop μ-loop (λ c. search kit) (λ c. search kit) (λ c. search kit) (λ c. search kit) (λ c. search kit)
     (λ c. search kit)  -- loop-again
     (λ c. search kit))  -- returns

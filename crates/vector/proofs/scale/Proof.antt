@@ -15,14 +15,9 @@ pub scale-spec : {M : Type 1} → statement M
 unfolding scaled
 scale-spec =
     tie.close
-    (tie.spec Inv-loop μ-loop
-    (λ c. search kit)  -- loop-holds
-    (λ c. search kit)  -- mul-a
-    (λ c. search kit)  -- slice-read-a
-    (λ c. search kit)  -- mul-a-2
-    (λ c. search kit)  -- slice-write-a
-    (λ c. search kit)  -- add-k
-    (λ c. search kit)  -- loop-less
+    (tie.spec Inv-loop μ-loop (λ c. search kit) (λ c. search kit) (λ c. search kit) (λ c. search kit) (λ c. search kit) (λ c. search kit)
+    (λ c. search kit)
     (λ c. search kit)  -- loop-again
-    (λ c. search kit)  -- same-length
-    (λ c. over-edit nan (c .before .loop .k) _ (λ i v. fmul v (c .before .before .args .by)) _ (omega arith) (omega arith) (omega arith) (c .before .loop .inv .2)))  -- returns
+    (λ c. search kit)
+    (λ c. over-edit nan (c .before .loop .k) _ (λ i v. fmul v (c .before .before .args .by)) _ (omega arith) (omega arith) (omega arith)
+    (c .before .loop .inv .2)))  -- returns

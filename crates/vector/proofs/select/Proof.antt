@@ -14,16 +14,10 @@ pub select-spec : {M : Type 1} → statement M
 unfolding select
 select-spec =
     tie.close
-    (tie.spec Inv-loop μ-loop
-    (λ c. search over-kit)  -- loop-holds
-    (λ c. search over-kit)  -- mul-y
-    (λ c. search over-kit)  -- shared-slice-read-y
+    (tie.spec Inv-loop μ-loop (λ c. search over-kit) (λ c. search over-kit) (λ c. search over-kit)
     (λ c. omega (arith, c .before .before .before .pre .3 _ (c .before .loop-test .taken)))  -- mul-y-2
     (λ c. omega (arith, c .before .before .before .before .pre .3 _ (c .before .before .loop-test .taken)))  -- shared-slice-read-y-2
-    (λ c. search over-kit)  -- mul-y-3
-    (λ c. search over-kit)  -- slice-write-y
-    (λ c. search over-kit)  -- add-i
-    (λ c. search over-kit)  -- loop-less
+    (λ c. search over-kit) (λ c. search over-kit) (λ c. search over-kit) (λ c. search over-kit)
     (λ c. search over-kit)  -- loop-again
-    (λ c. search over-kit)  -- same-length
+    (λ c. search over-kit)
     (λ c. search over-kit))  -- returns

@@ -14,16 +14,8 @@ pub sub-spec : {M : Type 1} → statement M
 unfolding sub
 sub-spec =
     tie.close
-    (tie.spec Inv-loop μ-loop
-    (λ c. search over-kit)  -- loop-holds
-    (λ c. search over-kit)  -- mul-y
-    (λ c. search over-kit)  -- shared-slice-read-y
-    (λ c. search over-kit)  -- mul-y-2
-    (λ c. search over-kit)  -- shared-slice-read-y-2
-    (λ c. search over-kit)  -- mul-y-3
-    (λ c. search over-kit)  -- slice-write-y
-    (λ c. search over-kit)  -- add-k
-    (λ c. search over-kit)  -- loop-less
+    (tie.spec Inv-loop μ-loop (λ c. search over-kit) (λ c. search over-kit) (λ c. search over-kit) (λ c. search over-kit) (λ c. search over-kit)
+    (λ c. search over-kit) (λ c. search over-kit) (λ c. search over-kit) (λ c. search over-kit)
     (λ c. search over-kit)  -- loop-again
-    (λ c. search over-kit)  -- same-length
+    (λ c. search over-kit)
     (λ c. search over-kit))  -- returns

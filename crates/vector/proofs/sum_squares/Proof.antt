@@ -13,13 +13,7 @@ pub sum-squares-spec : {M : Type 1} → statement M
 unfolding sumSquares
 sum-squares-spec =
     tie.close
-    (tie.spec Inv-loop μ-loop
-    (λ c. search kit)  -- loop-holds
-    (λ c. search kit)  -- mul-s
-    (λ c. search kit)  -- shared-slice-read-s
-    (λ c. search kit)  -- mul-s-2
-    (λ c. search kit)  -- shared-slice-read-s-2
-    (λ c. search kit)  -- add-k
-    (λ c. search kit)  -- loop-less
+    (tie.spec Inv-loop μ-loop (λ c. search kit) (λ c. search kit) (λ c. search kit) (λ c. search kit) (λ c. search kit) (λ c. search kit)
+    (λ c. search kit)
     (λ c. search kit)  -- loop-again
     (λ c. search kit))  -- returns

@@ -13,12 +13,6 @@ pub total-abs-spec : {M : Type 1} → statement M
 unfolding totalAbs
 total-abs-spec =
     tie.close
-    (tie.spec Inv-loop μ-loop
-    (λ c. search kit)  -- loop-holds
-    (λ c. search kit)  -- mul-abs
-    (λ c. search kit)  -- shared-slice-read-abs
-    (λ c κs. search kit)  -- abs-requires
-    (λ c. search kit)  -- add-k
-    (λ c. search kit)  -- loop-less
+    (tie.spec Inv-loop μ-loop (λ c. search kit) (λ c. search kit) (λ c. search kit) (λ c κs. search kit) (λ c. search kit) (λ c. search kit)
     (λ c. (omega arith, fold-call _ _ _ (c .before .before .before .loop .inv .1) (rw (c .abs .ensures))))  -- loop-again
     (λ c. search kit))  -- returns

@@ -1,0 +1,350 @@
+-- Laws of the definitions: how long each list is, what stands at each place, that only the n * m elements count, and a matrix written column by column.
+use mathlib.Core.Path.{_≡_, refl, sym, ap, _∙_}
+use mathlib.Core.List.{List}
+use mathlib.Core.Logic.{⊎-elim}
+use Prim.Native.Nat.{ℕ, zero, suc, _+_, _*_, _<_, _≤_}
+use native.Mathlib.Nat.{le-refl, eq-or-lt-of-le, le-of-suc-le-suc, mul-le-mul-right, mul-comm, not-suc-le-zero, suc-mul}
+use native.Mathlib.Omega.{arith}
+use borrow.Author.Needs.{needs}
+use borrow.Author.Tests.{eq-eqb, ne-eqb}
+use lib.ListN.{length, take, drop, set, getD, length-set}
+use lib.Seq.{getD-set-same, getD-set-other}
+use lib.Ieee.{Float, nan}
+use Rattle.folds.specs.Fold.{fold, folds, fold-call, fold-turn, fold-end, fold-keep, fold-same, tabM, over, pick}
+use Rattle.folds.specs.Tab.{length-tab, length-tabM, getD-tab, getD-tabM, tab-same, tabM-same, tabM-flat, tab-all, over-all, over-in, over-tabM, part-tab}
+use Rattle.folds.specs.Cell.{cell-lt}
+use Rattle.folds.specs.Decide.{lt-or-le}
+use Rattle.arith.specs.Float.{fmul, fdiv, f0, f1, at}
+use Rattle.arith.specs.Neutral.{sum-same}
+use Rattle.vector.specs.Vector.{Below, dot, amax}
+use Rattle.vector.specs.Laws.{Same, dot-sum}
+use Rattle.matrix.specs.Matrix.{cell, put, column, diagonal, trace, rowDot, mulVec, columnDot, trMulVec, cellDot, mul, columnsDot, trMul, transpose, unit, identity, index, selectRows, selectColumns, rowsDivided, columnsDivided, columnsAmax, putColumn}
+
+-- ---- lengths
+module _ (n : ℕ) where
+  pub length-column : (a : List Float) (j : ℕ) → length (column n a j) ≡ n
+  unfolding column
+  length-column a j = length-tab n _
+
+  pub length-diagonal : (a : List Float) → length (diagonal n a) ≡ n
+  unfolding diagonal
+  length-diagonal a = length-tab n _
+
+  pub length-identity : length (identity n) ≡ n * n
+  unfolding identity
+  length-identity = length-tabM n n unit
+
+  pub length-selectColumns : (a : List Float) (k : ℕ) (l : List ℕ) → length (selectColumns n a k l) ≡ n * k
+  unfolding selectColumns
+  length-selectColumns a k l = length-tabM n k _
+
+module _ (n m : ℕ) where
+  pub length-mulVec : (a x : List Float) → length (mulVec n m a x) ≡ n
+  unfolding mulVec
+  length-mulVec a x = length-tab n _
+
+  pub length-trMulVec : (a x : List Float) → length (trMulVec n m a x) ≡ m
+  unfolding trMulVec
+  length-trMulVec a x = length-tab m _
+
+  pub length-mul : (p : ℕ) (a b : List Float) → length (mul n p m a b) ≡ n * m
+  unfolding mul
+  length-mul p a b = length-tabM n m _
+
+  pub length-trMul : (p : ℕ) (a b : List Float) → length (trMul n p m a b) ≡ p * m
+  unfolding trMul
+  length-trMul p a b = length-tabM p m _
+
+  pub length-transpose : (a : List Float) → length (transpose n m a) ≡ m * n
+  unfolding transpose
+  length-transpose a = length-tabM m n _
+
+  pub length-selectRows : (a : List Float) (k : ℕ) (l : List ℕ) → length (selectRows n m a k l) ≡ k * m
+  unfolding selectRows
+  length-selectRows a k l = length-tabM k m _
+
+  pub length-rowsDivided : (a by : List Float) → length (rowsDivided n m a by) ≡ n * m
+  unfolding rowsDivided
+  length-rowsDivided a by = length-tabM n m _
+
+  pub length-columnsDivided : (a by : List Float) → length (columnsDivided n m a by) ≡ n * m
+  unfolding columnsDivided
+  length-columnsDivided a by = length-tabM n m _
+
+  pub length-columnsAmax : (a : List Float) → length (columnsAmax n m a) ≡ m
+  unfolding columnsAmax
+  length-columnsAmax a = length-tab m _
+
+-- ---- entries
+module _ (n m i j : ℕ) (p : i < n) (q : j < m) where
+  pub cell-tabM : (g : ℕ → ℕ → Float) → cell (tabM n m g) n i j ≡ g i j
+  cell-tabM g = getD-tabM nan n m i j g p q
+
+  pub cell-over : (l o : List Float) → n * m ≤ length l → cell (over l o) n i j ≡ cell l n i j
+  cell-over l o h = over-in nan l o (i + j * n) (cell-lt i j n m (length l) h p q)
+
+  pub cell-same : (a b : List Float) → Same (n * m) a b → cell a n i j ≡ cell b n i j
+  cell-same a b e = e (i + j * n) (cell-lt i j n m (n * m) (le-refl (n * m)) p q)
+
+  pub mul-at : (k : ℕ) (a b : List Float) → cell (mul n k m a b) n i j ≡ cellDot n k a b i j
+  unfolding mul
+  mul-at k a b = cell-tabM (cellDot n k a b)
+
+  -- here n and m are the columns of a and of b
+  pub trMul-at : (k : ℕ) (a b : List Float) → cell (trMul k n m a b) n i j ≡ columnsDot k a b i j
+  unfolding trMul
+  trMul-at k a b = cell-tabM (columnsDot k a b)
+
+  pub transpose-at : (a : List Float) → cell (transpose m n a) n i j ≡ cell a m j i
+  unfolding transpose
+  transpose-at a = cell-tabM (λ i j. cell a m j i)
+
+  pub selectRows-at : (k : ℕ) (a : List Float) (l : List ℕ) → cell (selectRows k m a n l) n i j ≡ cell a k (index l i) j
+  unfolding selectRows
+  selectRows-at k a l = cell-tabM (λ i j. cell a k (index l i) j)
+
+  pub selectColumns-at : (a : List Float) (l : List ℕ) → cell (selectColumns n a m l) n i j ≡ cell a n i (index l j)
+  unfolding selectColumns
+  selectColumns-at a l = cell-tabM (λ i j. cell a n i (index l j))
+
+  pub rowsDivided-at : (a by : List Float) → cell (rowsDivided n m a by) n i j ≡ fdiv (cell a n i j) (at by i)
+  unfolding rowsDivided
+  rowsDivided-at a by = cell-tabM (λ i j. fdiv (cell a n i j) (at by i))
+
+  pub columnsDivided-at : (a by : List Float) → cell (columnsDivided n m a by) n i j ≡ fdiv (cell a n i j) (at by j)
+  unfolding columnsDivided
+  columnsDivided-at a by = cell-tabM (λ i j. fdiv (cell a n i j) (at by j))
+
+-- a list with these entries is the matrix
+pub tabM-all : (n m : ℕ) (g : ℕ → ℕ → Float) (l : List Float) → length l ≡ n * m → ((i j : ℕ) → i < n → j < m → cell l n i j ≡ g i j) → tabM n m g ≡ l
+tabM-all n m g l e h =
+    tabM-same n m g (λ i j. cell l n i j) (λ i j p q. sym (h i j p q)) ∙ tabM-flat n m (at l) ∙ tab-all nan (m * n) l (e ∙ mul-comm n m)
+
+pub unit-same : (i : ℕ) → unit i i ≡ f1
+unfolding unit pick
+unit-same i = rw (eq-eqb i i refl)
+
+pub unit-other : (i j : ℕ) → (i ≡ j → ⊥) → unit i j ≡ f0
+unfolding unit pick
+unit-other i j h = rw (ne-eqb i j h)
+
+pub identity-at : (n i j : ℕ) → i < n → j < n → cell (identity n) n i j ≡ unit i j
+unfolding identity
+identity-at n i j p q = getD-tabM nan n n i j unit p q
+
+module _ (n : ℕ) where
+  pub column-at : (a : List Float) (j i : ℕ) → i < n → at (column n a j) i ≡ cell a n i j
+  unfolding column
+  column-at a j i h = getD-tab nan n i _ h
+
+  pub diagonal-at : (a : List Float) (i : ℕ) → i < n → at (diagonal n a) i ≡ cell a n i i
+  unfolding diagonal
+  diagonal-at a i h = getD-tab nan n i _ h
+
+module _ (n m : ℕ) where
+  pub mulVec-at : (a x : List Float) (i : ℕ) → i < n → at (mulVec n m a x) i ≡ rowDot n m a i x
+  unfolding mulVec
+  mulVec-at a x i h = getD-tab nan n i _ h
+
+  pub trMulVec-at : (a x : List Float) (j : ℕ) → j < m → at (trMulVec n m a x) j ≡ columnDot n a j x
+  unfolding trMulVec
+  trMulVec-at a x j h = getD-tab nan m j _ h
+
+  pub columnsAmax-at : (a : List Float) (j : ℕ) → j < m → at (columnsAmax n m a) j ≡ amax n (column n a j)
+  unfolding columnsAmax
+  columnsAmax-at a j h = getD-tab nan m j _ h
+
+-- column j is a part of the list
+pub column-part : (n j : ℕ) (a : List Float) → j * n + n ≤ length a → column n a j ≡ take n (drop (j * n) a)
+unfolding column
+column-part n j a h = sym (part-tab nan (j * n) n a h)
+
+pub over-identity : (n : ℕ) (o : List Float) → length o ≡ n * n → over (identity n) o ≡ identity n
+over-identity n o e = over-all (identity n) o (length-identity n ∙ sym e)
+
+pub columnDot-dot : (n : ℕ) (a : List Float) (j : ℕ) (x : List Float) → columnDot n a j x ≡ dot n (column n a j) x
+unfolding columnDot
+columnDot-dot n a j x =
+    sum-same n (λ i. fmul (cell a n i j) (at x i)) (λ i. fmul (at (column n a j) i) (at x i)) (λ i h. rw (column-at n a j i h))
+    ∙ sym (dot-sum n (column n a j) x)
+
+-- ---- only the elements of the matrix count
+module _ (n m : ℕ) (a b : List Float) (e : Same (n * m) a b) where
+  pub column-same : (j : ℕ) → j < m → column n a j ≡ column n b j
+  unfolding column
+  column-same j q = tab-same n _ _ (λ i p. cell-same n m i j p q a b e)
+
+  pub rowDot-same : (i : ℕ) (x y : List Float) → i < n → Same m x y → rowDot n m a i x ≡ rowDot n m b i y
+  unfolding rowDot
+  rowDot-same i x y p f = sum-same m _ _ (λ j q. rw (cell-same n m i j p q a b e, f j q))
+
+  pub mulVec-same : (x y : List Float) → Same m x y → mulVec n m a x ≡ mulVec n m b y
+  unfolding mulVec
+  mulVec-same x y f = tab-same n _ _ (λ i p. rowDot-same i x y p f)
+
+  pub columnDot-same : (j : ℕ) (x y : List Float) → j < m → Same n x y → columnDot n a j x ≡ columnDot n b j y
+  unfolding columnDot
+  columnDot-same j x y q f = sum-same n _ _ (λ i p. rw (cell-same n m i j p q a b e, f i p))
+
+  pub trMulVec-same : (x y : List Float) → Same n x y → trMulVec n m a x ≡ trMulVec n m b y
+  unfolding trMulVec
+  trMulVec-same x y f = tab-same m _ _ (λ j q. columnDot-same j x y q f)
+
+  pub transpose-same : transpose n m a ≡ transpose n m b
+  unfolding transpose
+  transpose-same = tabM-same m n _ _ (λ i j p q. cell-same n m j i q p a b e)
+
+  pub selectRows-same : (k : ℕ) (l : List ℕ) → Below k l n → selectRows n m a k l ≡ selectRows n m b k l
+  unfolding selectRows
+  selectRows-same k l h = tabM-same k m _ _ (λ i j p q. cell-same n m (index l i) j (h i p) q a b e)
+
+  pub selectColumns-same : (k : ℕ) (l : List ℕ) → Below k l m → selectColumns n a k l ≡ selectColumns n b k l
+  unfolding selectColumns
+  selectColumns-same k l h = tabM-same n k _ _ (λ i j p q. cell-same n m i (index l j) p (h j q) a b e)
+
+  pub rowsDivided-same : (x y : List Float) → Same n x y → rowsDivided n m a x ≡ rowsDivided n m b y
+  unfolding rowsDivided
+  rowsDivided-same x y f = tabM-same n m _ _ (λ i j p q. rw (cell-same n m i j p q a b e, f i p))
+
+  pub columnsDivided-same : (x y : List Float) → Same m x y → columnsDivided n m a x ≡ columnsDivided n m b y
+  unfolding columnsDivided
+  columnsDivided-same x y f = tabM-same n m _ _ (λ i j p q. rw (cell-same n m i j p q a b e, f j q))
+
+  pub columnsAmax-same : columnsAmax n m a ≡ columnsAmax n m b
+  unfolding columnsAmax
+  columnsAmax-same = tab-same m _ _ (λ j q. ap (amax n) (column-same j q))
+
+  -- a is n by m: a times c, m by k
+  pub mul-same : (k : ℕ) (c d : List Float) → Same (m * k) c d → mul n m k a c ≡ mul n m k b d
+  unfolding mul cellDot
+  mul-same k c d f = tabM-same n k _ _ (λ i j p q. sum-same m _ _ (λ t h. rw (cell-same n m i t p h a b e, cell-same m k t j h q c d f)))
+
+  -- and aᵀ times c, n by k
+  pub trMul-same : (k : ℕ) (c d : List Float) → Same (n * k) c d → trMul n m k a c ≡ trMul n m k b d
+  unfolding trMul columnsDot
+  trMul-same k c d f = tabM-same m k _ _ (λ i j p q. sum-same n _ _ (λ t h. rw (cell-same n m t i h p a b e, cell-same n k t j h q c d f)))
+
+module _ (n : ℕ) (a b : List Float) (e : Same (n * n) a b) where
+  pub diagonal-same : diagonal n a ≡ diagonal n b
+  unfolding diagonal
+  diagonal-same = tab-same n _ _ (λ i p. cell-same n n i i p p a b e)
+
+  pub trace-same : trace n a ≡ trace n b
+  unfolding trace
+  trace-same = sum-same n _ _ (λ i p. cell-same n n i i p p a b e)
+
+-- ---- one entry written
+
+-- places of a matrix of n rows in different columns
+pub apart : (n i k j t : ℕ) → i < n → k < n → j < t → i + j * n ≡ k + t * n → ⊥
+apart n i k j t p q l e = omega (arith, mul-le-mul-right n l, suc-mul j n)
+
+-- a place has one row and one column
+pub place-same : (n i j k t : ℕ) → i < n → k < n → i + j * n ≡ k + t * n → (i ≡ k) × (j ≡ t)
+place-same n i j k t p q e =
+    let z : j ≡ t = ⊎-elim
+    (λ (l : j < t). absurd (apart n i k j t p q l e))
+    (λ (l : t ≤ j). ⊎-elim (λ (w : t ≡ j). sym w) (λ (w : t < j). absurd (apart n k i t j q p w (sym e))) (eq-or-lt-of-le l))
+    (lt-or-le j t) in
+    let y : i + t * n ≡ k + t * n = rw (← z) (rw (← z) at e) in
+    (omega arith, z)
+
+module _ (n i j : ℕ) (v : Float) (a : List Float) where
+  pub put-same : (m : ℕ) → n * m ≤ length a → i < n → j < m → cell (put a n i j v) n i j ≡ v
+  put-same m h p q = getD-set-same a (i + j * n) v nan (cell-lt i j n m (length a) h p q)
+
+  -- in another row, and in another column
+  pub put-row : (k t : ℕ) → i < n → k < n → (k ≡ i → ⊥) → cell (put a n i j v) n k t ≡ cell a n k t
+  put-row k t p q d = getD-set-other a (i + j * n) (k + t * n) v nan (λ e. d (place-same n k t i j q p e .0))
+
+  pub put-column : (k t : ℕ) → i < n → k < n → (t ≡ j → ⊥) → cell (put a n i j v) n k t ≡ cell a n k t
+  put-column k t p q d = getD-set-other a (i + j * n) (k + t * n) v nan (λ e. d (place-same n k t i j q p e .1))
+
+-- ---- a loop down a column
+module _ (n j : ℕ) (g : ℕ → Float) (a : List Float) where
+  pub column-none : a ≡ putColumn 0 n j g a
+  unfolding putColumn fold
+  column-none = refl
+
+  pub column-turn : {l : List Float} (k : ℕ) → l ≡ putColumn k n j g a → put l n k j (g k) ≡ putColumn (k + 1) n j g a
+  unfolding putColumn
+  column-turn k e = fold-turn k (λ i l. put l n i j (g i)) a e
+
+  pub column-call : {r l : List Float} (k : ℕ) → l ≡ putColumn k n j g a → r ≡ put l n k j (g k) → r ≡ putColumn (k + 1) n j g a
+  column-call k e f = f ∙ column-turn k e
+
+  pub column-end : {l : List Float} (k m : ℕ) → k ≤ m → m ≤ k → l ≡ putColumn k n j g a → l ≡ putColumn m n j g a
+  unfolding putColumn
+  column-end k m p q e = fold-end k m (λ i l. put l n i j (g i)) a p q e
+
+  pub length-putColumn : (k : ℕ) → length (putColumn k n j g a) ≡ length a
+  unfolding putColumn
+  length-putColumn k = fold-keep (λ (l : List Float). length l ≡ length a) k (λ i l. put l n i j (g i)) a refl (λ i l h p. length-set l _ _ ∙ p)
+
+  -- the entries from k on are as they were
+  pub column-kept : (k i : ℕ) → k ≤ i → cell (putColumn k n j g a) n i j ≡ cell a n i j
+  unfolding putColumn fold
+  column-kept zero i h = refl
+  column-kept (suc k) i h =
+      let differ : i + j * n ≡ k + j * n → ⊥ = λ e. omega arith in
+      getD-set-other (putColumn k n j g a) (k + j * n) (i + j * n) (g k) nan differ ∙ column-kept k i (omega arith)
+
+  -- those below k are g's
+  pub column-put : (k i : ℕ) → i < k → k + j * n ≤ length a → cell (putColumn k n j g a) n i j ≡ g i
+  unfolding putColumn fold
+  column-put zero i h w = absurd (not-suc-le-zero h)
+  column-put (suc k) i h w =
+      ⊎-elim
+      (λ (e : i ≡ k). let u : k + j * n < length (putColumn k n j g a) = rw (length-putColumn k) (omega arith) in
+      rw (e, getD-set-same (putColumn k n j g a) (k + j * n) (g k) nan u))
+      (λ (l : i < k). let differ : i + j * n ≡ k + j * n → ⊥ = λ e. omega arith in
+      getD-set-other (putColumn k n j g a) (k + j * n) (i + j * n) (g k) nan differ ∙ column-put k i l (omega arith))
+      (eq-or-lt-of-le (le-of-suc-le-suc h))
+
+-- the other columns are as they were
+pub column-other : (n j t : ℕ) (g : ℕ → Float) (a : List Float) (k i : ℕ) → k ≤ n → i < n → j < t → cell (putColumn k n j g a) n i t ≡ cell a n i t
+unfolding putColumn fold
+column-other n j t g a zero i h p l = refl
+column-other n j t g a (suc k) i h p l =
+    getD-set-other (putColumn k n j g a) (k + j * n) (i + t * n) (g k) nan (λ e. apart n k i j t (omega arith) p l (sym e))
+    ∙ column-other n j t g a k i (omega arith) p l
+
+pub putColumn-same : (k n j : ℕ) (g h : ℕ → Float) (a : List Float) → ((i : ℕ) → i < k → g i ≡ h i) → putColumn k n j g a ≡ putColumn k n j h a
+unfolding putColumn
+putColumn-same k n j g h a e = fold-same k (λ i l. put l n i j (g i)) (λ i l. put l n i j (h i)) a (λ i l p. rw (e i p))
+
+-- an entry that is made from itself, in place
+pub column-edit : {r l : List Float} (n j : ℕ) (h : ℕ → Float → Float) (a : List Float) (k : ℕ) → l ≡ putColumn k n j (λ i. h i (cell a n i j)) a →
+    r ≡ put l n k j (h k (cell l n k j)) → r ≡ putColumn (k + 1) n j (λ i. h i (cell a n i j)) a
+column-edit {r} {l} n j h a k e f =
+    let g : ℕ → Float = λ i. h i (cell a n i j) in
+    let z : cell l n k j ≡ cell a n k j = rw e (column-kept n j g a k k (le-refl k)) in
+    column-call n j g a k e (f ∙ rw z)
+
+pub ruleset columns = (column-none, column-turn, column-call, column-end)
+
+pub ruleset column-kit = (columns, needs)
+
+-- ---- and over the columns: the matrix, written over the start of o
+pub over-columns : {s : List Float} (k n m : ℕ) (g : ℕ → ℕ → Float) (o : List Float) → k ≤ m → m ≤ k → n * m ≤ length o →
+    s ≡ fold k (λ j l. putColumn n n j (λ i. g i j) l) o → s ≡ over (tabM n m g) o
+unfolding putColumn
+over-columns k n m g o p q h e = over-tabM k n m g o p q h e
+
+-- the columns from k on are as they were
+pub columns-kept : (k n i j : ℕ) (g : ℕ → ℕ → Float) (a : List Float) → i < n → k ≤ j →
+    cell (fold k (λ t l. putColumn n n t (λ i. g i t) l) a) n i j ≡ cell a n i j
+unfolding fold
+columns-kept zero n i j g a p h = refl
+columns-kept (suc k) n i j g a p h = column-other n k j (λ i. g i k) _ n i (le-refl n) p (omega arith) ∙ columns-kept k n i j g a p (omega arith)
+
+-- a column whose entries are made from themselves, in place
+pub columns-edit : {r l : List Float} (n : ℕ) (h : ℕ → ℕ → Float → Float) (a : List Float) (k : ℕ) →
+    l ≡ fold k (λ t x. putColumn n n t (λ i. h i t (cell a n i t)) x) a → r ≡ putColumn n n k (λ i. h i k (cell l n i k)) l →
+    r ≡ fold (k + 1) (λ t x. putColumn n n t (λ i. h i t (cell a n i t)) x) a
+columns-edit {r} {l} n h a k e f =
+    let g : ℕ → ℕ → Float = λ i t. h i t (cell a n i t) in
+    let z : (i : ℕ) → i < n → h i k (cell l n i k) ≡ g i k = λ i p. ap (h i k) (rw e (columns-kept k n i k g a p (le-refl k))) in
+    fold-call k (λ t x. putColumn n n t (λ i. g i t) x) a e (f ∙ putColumn-same n n k _ (λ i. g i k) l z)
+
+pub ruleset matrix-kit = (folds, over-columns, needs)

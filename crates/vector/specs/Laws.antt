@@ -1,0 +1,313 @@
+-- Laws of the definitions: how long each list is, what stands at each place, and that only the first n elements count.
+use mathlib.Core.Path.{_≡_, refl, sym, ap, subst, _∙_}
+use mathlib.Core.Bool.{true, false}
+use mathlib.Core.Logic.{⊎-elim}
+use mathlib.Core.List.{List}
+use Prim.Native.Nat.{ℕ, zero, suc, _<_, _≤_}
+use native.Mathlib.Omega.{arith}
+use native.Mathlib.Nat.{le-refl, eq-or-lt-of-le, le-of-suc-le-suc, not-suc-le-zero}
+use lib.ListN.{length, take, getD, replicate, length-replicate}
+use lib.Seq.{getD-take, ext-getD, length-take-le, take-all}
+use lib.Ieee.{Float, nan, binary64, isNan, eq}
+use lib.Ieee.Fits.{div-fits}
+use lib.Ieee.Positive.{num, den, den-pos, through}
+use Rattle.folds.specs.Fold.{fold, over, all-at, fold-same, all-same, some-same, all-yes}
+use Rattle.folds.specs.Tab.{length-tab, getD-tab, tab-same, tab-all, over-all, over-in, take-replicate}
+use Rattle.arith.specs.Float.{fadd, fsub, fmul, fdiv, f0, at, sum}
+use Rattle.arith.specs.Scalar.{abs, max, isFinite}
+use Rattle.arith.specs.Neutral.{Held, sum-same, zero-is, plus, plus-held, plus-add, add-zero}
+use Rattle.arith.specs.Quotients.{Size, Under, larger, quotient}
+use Rattle.vector.specs.Vector.{dot, sumSquares, norm, amax, anyNan, allFinite, quotientSquares, scaledNorm, total, totalAbs, scaled, divided, add, sub, mul, div, addScaled, subScaled, addScalar, copy, filled, select}
+
+-- ---- lengths
+module _ (n : ℕ) where
+  pub length-scaled : (a : List Float) (s : Float) → length (scaled n a s) ≡ n
+  unfolding scaled
+  length-scaled a s = length-tab n _
+
+  pub length-divided : (a : List Float) (s : Float) → length (divided n a s) ≡ n
+  unfolding divided
+  length-divided a s = length-tab n _
+
+  pub length-add : (a b : List Float) → length (add n a b) ≡ n
+  unfolding add
+  length-add a b = length-tab n _
+
+  pub length-sub : (a b : List Float) → length (sub n a b) ≡ n
+  unfolding sub
+  length-sub a b = length-tab n _
+
+  pub length-mul : (a b : List Float) → length (mul n a b) ≡ n
+  unfolding mul
+  length-mul a b = length-tab n _
+
+  pub length-div : (a b : List Float) → length (div n a b) ≡ n
+  unfolding div
+  length-div a b = length-tab n _
+
+  pub length-addScaled : (y x : List Float) (s : Float) → length (addScaled n y x s) ≡ n
+  unfolding addScaled
+  length-addScaled y x s = length-tab n _
+
+  pub length-subScaled : (y x : List Float) (s : Float) → length (subScaled n y x s) ≡ n
+  unfolding subScaled
+  length-subScaled y x s = length-tab n _
+
+  pub length-addScalar : (a : List Float) (s : Float) → length (addScalar n a s) ≡ n
+  unfolding addScalar
+  length-addScalar a s = length-tab n _
+
+  pub length-copy : (a : List Float) → length (copy n a) ≡ n
+  unfolding copy
+  length-copy a = length-tab n _
+
+  pub length-filled : (v : Float) → length (filled n v) ≡ n
+  unfolding filled
+  length-filled v = length-tab n _
+
+  pub length-select : (a : List Float) (l : List ℕ) → length (select n a l) ≡ n
+  unfolding select
+  length-select a l = length-tab n _
+
+-- ---- elements
+module _ (n k : ℕ) (h : k < n) where
+  pub scaled-at : (a : List Float) (s : Float) → at (scaled n a s) k ≡ fmul (at a k) s
+  unfolding scaled
+  scaled-at a s = getD-tab nan n k _ h
+
+  pub divided-at : (a : List Float) (s : Float) → at (divided n a s) k ≡ fdiv (at a k) s
+  unfolding divided
+  divided-at a s = getD-tab nan n k _ h
+
+  pub add-at : (a b : List Float) → at (add n a b) k ≡ fadd (at a k) (at b k)
+  unfolding add
+  add-at a b = getD-tab nan n k _ h
+
+  pub sub-at : (a b : List Float) → at (sub n a b) k ≡ fsub (at a k) (at b k)
+  unfolding sub
+  sub-at a b = getD-tab nan n k _ h
+
+  pub mul-at : (a b : List Float) → at (mul n a b) k ≡ fmul (at a k) (at b k)
+  unfolding mul
+  mul-at a b = getD-tab nan n k _ h
+
+  pub div-at : (a b : List Float) → at (div n a b) k ≡ fdiv (at a k) (at b k)
+  unfolding div
+  div-at a b = getD-tab nan n k _ h
+
+  pub addScaled-at : (y x : List Float) (s : Float) → at (addScaled n y x s) k ≡ fadd (at y k) (fmul (at x k) s)
+  unfolding addScaled
+  addScaled-at y x s = getD-tab nan n k _ h
+
+  pub subScaled-at : (y x : List Float) (s : Float) → at (subScaled n y x s) k ≡ fsub (at y k) (fmul (at x k) s)
+  unfolding subScaled
+  subScaled-at y x s = getD-tab nan n k _ h
+
+  pub addScalar-at : (a : List Float) (s : Float) → at (addScalar n a s) k ≡ fadd (at a k) s
+  unfolding addScalar
+  addScalar-at a s = getD-tab nan n k _ h
+
+  pub copy-at : (a : List Float) → at (copy n a) k ≡ at a k
+  unfolding copy
+  copy-at a = getD-tab nan n k _ h
+
+  pub filled-at : (v : Float) → at (filled n v) k ≡ v
+  unfolding filled
+  filled-at v = getD-tab nan n k _ h
+
+  pub select-at : (a : List Float) (l : List ℕ) → at (select n a l) k ≡ at a (getD l k 0)
+  unfolding select
+  select-at a l = getD-tab nan n k _ h
+
+-- ---- copies and lists of one value
+pub copy-all : (n : ℕ) (a : List Float) → length a ≡ n → copy n a ≡ a
+unfolding copy
+copy-all n a e = tab-all nan n a e
+
+pub copy-take : (n : ℕ) (a : List Float) → n ≤ length a → copy n a ≡ take n a
+unfolding copy
+copy-take n a h = ext-getD nan (copy n a) (take n a) (length-copy n a ∙ sym (length-take-le n a h))
+    (λ i l. let k : i < n = rw (length-copy n a) at l in copy-at n i k a ∙ sym (getD-take n a i nan k))
+
+-- a copy over a list of n elements is the copy, and of a list of n elements is that list
+pub over-copy : (n : ℕ) (a o : List Float) → length o ≡ n → over (copy n a) o ≡ copy n a
+over-copy n a o e = over-all (copy n a) o (length-copy n a ∙ sym e)
+
+pub copy-over : (n : ℕ) (a o : List Float) → length a ≡ n → length o ≡ n → over (copy n a) o ≡ a
+copy-over n a o p q = over-copy n a o q ∙ copy-all n a p
+
+pub over-filled : (n : ℕ) (v : Float) (o : List Float) → length o ≡ n → over (filled n v) o ≡ filled n v
+over-filled n v o e = over-all (filled n v) o (length-filled n v ∙ sym e)
+
+pub take-filled : (k n : ℕ) (v : Float) → k ≤ n → take k (replicate n v) ≡ filled k v
+unfolding filled
+take-filled k n v h = take-replicate k n v h
+
+pub take-zeros : (k n : ℕ) → k ≤ n → take k (replicate n f0) ≡ filled k f0
+take-zeros k n h = take-filled k n f0 h
+
+pub replicate-filled : (n : ℕ) (v : Float) → replicate n v ≡ filled n v
+replicate-filled n v = sym (take-all n (replicate n v) (rw (length-replicate n v) (le-refl n))) ∙ take-filled n n v (le-refl n)
+
+-- ---- only the first n elements count
+abbrev pub Same : ℕ → List Float → List Float → Type 0
+Same n a b = (k : ℕ) → k < n → at a k ≡ at b k
+
+pub same-take : (n : ℕ) (a : List Float) → Same n (take n a) a
+same-take n a k h = getD-take n a k nan h
+
+pub same-over : (n : ℕ) (l o : List Float) → n ≤ length l → Same n (over l o) l
+same-over n l o p k h = over-in nan l o k (omega arith)
+
+-- where the first n elements are known as a list
+pub same-taken : (n : ℕ) (a b : List Float) → take n a ≡ take n b → Same n a b
+same-taken n a b e k h = sym (getD-take n a k nan h) ∙ ap (λ (l : List Float). at l k) e ∙ getD-take n b k nan h
+
+pub same-copy : (n : ℕ) (a : List Float) → Same n (copy n a) a
+same-copy n a k h = copy-at n k h a
+
+pub take-same : (n : ℕ) (a b : List Float) → n ≤ length a → n ≤ length b → Same n a b → take n a ≡ take n b
+take-same n a b p q e =
+    ext-getD nan (take n a) (take n b) (length-take-le n a p ∙ sym (length-take-le n b q))
+    (λ i l. let k : i < n = rw (length-take-le n a p) at l in getD-take n a i nan k ∙ e i k ∙ sym (getD-take n b i nan k))
+
+module _ (n : ℕ) (a b : List Float) (e : Same n a b) where
+  pub sumSquares-same : sumSquares n a ≡ sumSquares n b
+  unfolding sumSquares
+  sumSquares-same = sum-same n _ _ (λ k l. rw (e k l))
+
+  pub norm-same : norm n a ≡ norm n b
+  unfolding norm
+  norm-same = rw sumSquares-same
+
+  pub amax-same : amax n a ≡ amax n b
+  unfolding amax
+  amax-same = fold-same n (λ k m. max m (abs (at a k))) (λ k m. max m (abs (at b k))) f0 (λ k s l. rw (e k l))
+
+  pub anyNan-same : anyNan n a ≡ anyNan n b
+  unfolding anyNan
+  anyNan-same = some-same n _ _ (λ k l. ap isNan (e k l))
+
+  pub allFinite-same : allFinite n a ≡ allFinite n b
+  unfolding allFinite
+  allFinite-same = all-same n _ _ (λ k l. ap isFinite (e k l))
+
+  pub quotientSquares-same : (s : Float) → quotientSquares n a s ≡ quotientSquares n b s
+  unfolding quotientSquares
+  quotientSquares-same s = sum-same n _ _ (λ k l. rw (e k l))
+
+  pub scaledNorm-same : scaledNorm n a ≡ scaledNorm n b
+  unfolding scaledNorm
+  scaledNorm-same = rw (anyNan-same, amax-same, quotientSquares-same (amax n b))
+
+  pub total-same : total n a ≡ total n b
+  unfolding total
+  total-same = sum-same n _ _ e
+
+  pub totalAbs-same : totalAbs n a ≡ totalAbs n b
+  unfolding totalAbs
+  totalAbs-same = sum-same n _ _ (λ k l. ap abs (e k l))
+
+  pub scaled-same : (s : Float) → scaled n a s ≡ scaled n b s
+  unfolding scaled
+  scaled-same s = tab-same n _ _ (λ k l. rw (e k l))
+
+  pub divided-same : (s : Float) → divided n a s ≡ divided n b s
+  unfolding divided
+  divided-same s = tab-same n _ _ (λ k l. rw (e k l))
+
+  pub addScalar-same : (s : Float) → addScalar n a s ≡ addScalar n b s
+  unfolding addScalar
+  addScalar-same s = tab-same n _ _ (λ k l. rw (e k l))
+
+  pub copy-same : copy n a ≡ copy n b
+  unfolding copy
+  copy-same = tab-same n _ _ e
+
+pub dot-sum : (n : ℕ) (a b : List Float) → dot n a b ≡ sum n (λ k. fmul (at a k) (at b k))
+unfolding dot
+dot-sum n a b = refl
+
+module _ (n : ℕ) (a b c d : List Float) (e : Same n a c) (f : Same n b d) where
+  pub dot-same : dot n a b ≡ dot n c d
+  unfolding dot
+  dot-same = sum-same n _ _ (λ k l. rw (e k l, f k l))
+
+  pub add-same : add n a b ≡ add n c d
+  unfolding add
+  add-same = tab-same n _ _ (λ k l. rw (e k l, f k l))
+
+  pub sub-same : sub n a b ≡ sub n c d
+  unfolding sub
+  sub-same = tab-same n _ _ (λ k l. rw (e k l, f k l))
+
+  pub mul-same : mul n a b ≡ mul n c d
+  unfolding mul
+  mul-same = tab-same n _ _ (λ k l. rw (e k l, f k l))
+
+  pub div-same : div n a b ≡ div n c d
+  unfolding div
+  div-same = tab-same n _ _ (λ k l. rw (e k l, f k l))
+
+  pub addScaled-same : (s : Float) → addScaled n a b s ≡ addScaled n c d s
+  unfolding addScaled
+  addScaled-same s = tab-same n _ _ (λ k l. rw (e k l, f k l))
+
+  pub subScaled-same : (s : Float) → subScaled n a b s ≡ subScaled n c d s
+  unfolding subScaled
+  subScaled-same s = tab-same n _ _ (λ k l. rw (e k l, f k l))
+
+-- ---- finite elements
+pub finite-at : (n k : ℕ) (a : List Float) → allFinite n a ≡ true → k < n → isFinite (at a k) ≡ true
+unfolding allFinite
+finite-at n k a e h = all-at n k (λ j. isFinite (at a j)) e h
+
+pub finite-all : (n : ℕ) (a : List Float) → ((k : ℕ) → k < n → isFinite (at a k) ≡ true) → allFinite n a ≡ true
+unfolding allFinite
+finite-all n a h = all-yes n (λ j. isFinite (at a j)) h
+
+-- ---- no element is larger than the largest
+pub amax-largest : (n : ℕ) (a : List Float) → ((k : ℕ) → k < n → isFinite (at a k) ≡ true) →
+    Size (amax n a) × ((k : ℕ) → k < n → Under (at a k) (amax n a))
+unfolding amax fold
+amax-largest zero a h = (subst Size (sym zero-is) refl, λ k l. absurd (not-suc-le-zero l))
+amax-largest (suc n) a h =
+    let m = amax n a in
+    let u = amax-largest n a (λ k l. h k (omega arith)) in
+    let s = larger m (at a n) (u .0) (h n (omega arith)) in
+    let x : Float = max m (abs (at a n)) in (
+      s .0,
+      λ k l. ⊎-elim (λ (e : k ≡ n). rw e (s .2))
+          (λ (i : k < n). through (num (at a k)) (num m) (num x) (den (at a k)) (den m) (den x) (den-pos m) (u .1 k i) (s .1))
+          (eq-or-lt-of-le (le-of-suc-le-suc l)),
+    )
+
+-- a finite list over its largest absolute value, if that is not 0, is finite
+pub quotients-finite : (n : ℕ) (a : List Float) → allFinite n a ≡ true → eq (amax n a) f0 ≡ false → allFinite n (divided n a (amax n a)) ≡ true
+quotients-finite n a h z =
+    let l = amax n a in
+    let f : (k : ℕ) → k < n → isFinite (at a k) ≡ true = λ k i. finite-at n k a h i in
+    let u = amax-largest n a f in
+    finite-all n (divided n a l) (λ k i. rw (divided-at n k i a l) (quotient (at a k) l (f k i) (u .0) z (u .1 k i)))
+
+-- ---- adding 0 to finite values of f64
+abbrev pub Holding : ℕ → List Float → Type 0
+Holding n a = (k : ℕ) → k < n → Held (at a k)
+
+module _ (n : ℕ) (a : List Float) (h : Holding n a) where
+  plus-at : (k : ℕ) → k < n → at (addScalar n a f0) k ≡ plus (at a k)
+  plus-at k l = addScalar-at n k l a f0 ∙ add-zero (at a k) (h k l)
+
+  pub zero-holding : Holding n (addScalar n a f0)
+  zero-holding k l = rw (plus-at k l) (plus-held (at a k) (h k l))
+
+  -- a second time changes nothing
+  pub zero-twice : addScalar n (addScalar n a f0) f0 ≡ addScalar n a f0
+  zero-twice =
+      ext-getD nan (addScalar n (addScalar n a f0) f0) (addScalar n a f0) (length-addScalar n (addScalar n a f0) f0 ∙ sym (length-addScalar n a f0))
+      (λ k i. let l : k < n = rw (length-addScalar n (addScalar n a f0) f0) at i in
+      addScalar-at n k l (addScalar n a f0) f0 ∙ rw (plus-at k l) (plus-add (at a k) f0 (h k l) (false, zero-is)))
+
+-- quotients are values of f64
+pub quotients-holding : (n : ℕ) (a : List Float) (s : Float) → allFinite n (divided n a s) ≡ true → Holding n (divided n a s)
+quotients-holding n a s h k l = (finite-at n k (divided n a s) h l, rw (divided-at n k l a s) (div-fits binary64 (at a k) s))
