@@ -4,7 +4,7 @@ use Prim.Native.Nat.{ℕ, _+_, _-_, _*_, min}
 use mathlib.Core.Bool.{Bool, false}
 use mathlib.Core.List.{List}
 use lib.Dec.{eqb}
-use lib.ListN.{set, take}
+use lib.ListN.{length, set, take}
 use lib.Ieee.{Float}
 use Rattle.folds.specs.Fold.{fold, span, tab, tabM, pick}
 use Rattle.folds.specs.Part.{Two, two}
@@ -13,72 +13,78 @@ use Rattle.vector.specs.Vector.{sub, filled}
 use Rattle.matrix.specs.Matrix.{cell, index, identity, mul, trMul, mulVec, trMulVec}
 use Rattle.householder.specs.Householder.{qr, qTrMul}
 use Rattle.pivoting.specs.Pivoting.{Pivoting, pivoting, factored}
-use Rattle.constraints.specs.declared.Constraints.{Constraints}
+use Rattle.pivoting.specs.declared.Pivots.{Pivots}
 
 -- ---- `Constraints::new`: Z, from Y
 -- `range.qr().q_tr_mul(&mut q_transpose)`, of the identity
-unfoldable pub applied : ℕ → ℕ → Two (List Float) (List Bool) → List Float
+unfoldable pub applied : (n rank : ℕ) → Two (List Float) (List Bool) → List Float
 applied n rank (two reflectors made) = qTrMul n rank reflectors made n (identity n)
 
-unfoldable pub qTranspose : ℕ → ℕ → List Float → List Float
+unfoldable pub qTranspose : (n rank : ℕ) (range : List Float) → List Float
 qTranspose n rank range = applied n rank (qr n rank (two range (tab rank (λ _. false))))
 
 -- `q_transpose.rows(rank, d).transpose()`, with d = n - rank
-unfoldable pub rowsTransposed : ℕ → ℕ → ℕ → List Float → List Float
+unfoldable pub rowsTransposed : (n rank d : ℕ) (q : List Float) → List Float
 rowsTransposed n rank d q = tabM n d (λ i j. cell q n (rank + j) i)
 
 -- `null -= &range * (range.transpose() * &null)`
-unfoldable pub lessRange : ℕ → ℕ → ℕ → List Float → List Float → List Float
+unfoldable pub lessRange : (n rank d : ℕ) (range null : List Float) → List Float
 lessRange n rank d range null = sub (n * d) null (mul n rank d range (trMul n rank d range null))
 
 -- the last n - rank columns of a full Q, whose first columns span Y's range, less Y's part, twice
-unfoldable pub nullSpace : ℕ → ℕ → List Float → List Float
-nullSpace n rank range =
-    pick (eqb rank 0) (identity n) (fold 2 (λ _. lessRange n rank (n - rank) range) (rowsTransposed n rank (n - rank) (qTranspose n rank range)))
+unfoldable pub completed : (n rank : ℕ) (range : List Float) → List Float
+completed n rank range = fold 2 (λ _. lessRange n rank (n - rank) range) (rowsTransposed n rank (n - rank) (qTranspose n rank range))
+
+unfoldable pub nullSpace : (n rank : ℕ) (range : List Float) → List Float
+nullSpace n rank range = pick (eqb rank 0) (identity n) (completed n rank range)
 
 -- ---- `Constraints::new`
 -- what counts of its fields; the rank is `pivots.len()`
-pub data Parts : Type 0 where
-  parts : (rank : ℕ) (range null coefficients : List Float) (pivots : List ℕ) → Parts
+pub data Constraints : Type 0 where
+  constraints : (rank : ℕ) (range null coefficients : List Float) (pivots : List ℕ) → Constraints
 
-unfoldable pub constraintsOf : ℕ → ℕ → Constraints → Parts
-constraintsOf n m c =
-    let rank = c .pivots .rank in
-    parts rank (take (n * rank) (c .range)) (take (n * (n - rank)) (c .null)) (take (min n m * m) (c .coefficients)) (take rank (c .pivots .column))
+unfoldable pub constraintsOf : (n m : ℕ) (range null coefficients : List Float) → Pivots → Constraints
+constraintsOf n m range null coefficients r =
+    let rank = r .rank in
+    constraints rank (take (n * rank) range) (take (n * (n - rank)) null) (take (min n m * m) coefficients) (take rank (r .column))
 
-unfoldable pub completed : ℕ → Pivoting → Parts
-completed n (pivoting left coefficients basis pivots) =
-    let rank = pivots .rank in
+unfoldable pub withNull : (n : ℕ) → Pivoting → Constraints
+withNull n (pivoting left coefficients basis pivots remaining) =
+    let rank = length pivots in
     let range = take (n * rank) basis in
-    parts rank range (nullSpace n rank range) coefficients (take rank (pivots .column))
+    constraints rank range (nullSpace n rank range) coefficients pivots
 
-unfoldable pub new : ℕ → ℕ → List Float → Parts
-new n m e = completed n (factored n m (min n m) e)
+unfoldable pub new : (n m : ℕ) (e : List Float) → Constraints
+new n m e = withNull n (factored n m (min n m) e)
 
 -- ---- `smallest_feasible`: the smallest x with Eᵀx = b on the pivot columns, x = Yu with Tᵀu = b, by forward substitution
 -- `(b[j] - known) / self.coefficients[(i, j)]`
-unfoldable pub feasibleOne : ℕ → List Float → List Float → ℕ → ℕ → List Float → Float
+unfoldable pub feasibleOne : (p : ℕ) (coefficients b : List Float) (j i : ℕ) (u : List Float) → Float
 feasibleOne p coefficients b j i u = fdiv (fsub (at b j) (sum i (λ k. fmul (cell coefficients p k j) (at u k)))) (cell coefficients p i j)
 
-unfoldable pub forward : ℕ → List Float → List Float → List ℕ → ℕ → List Float → List Float
+unfoldable pub forward : (p : ℕ) (coefficients b : List Float) (pivots : List ℕ) (rank : ℕ) (u : List Float) → List Float
 forward p coefficients b pivots rank u = fold rank (λ i x. set x i (feasibleOne p coefficients b (index pivots i) i x)) u
 
-unfoldable pub smallestFeasible : ℕ → ℕ → List Float → List Float → List Float → List ℕ → ℕ → List Float
+unfoldable pub smallestFeasible : (n m : ℕ) (range coefficients b : List Float) (pivots : List ℕ) (rank : ℕ) → List Float
 smallestFeasible n m range coefficients b pivots rank = mulVec n rank range (forward (min n m) coefficients b pivots rank (filled rank f0))
 
 -- ---- `multipliers`: the λ that best solves Eλ = g, Tλ = Yᵀg on the pivot columns, by back substitution, with zero for dependent columns
--- `(h[i] - known) / self.coefficients[(i, j)]`
-unfoldable pub multiplierOne : ℕ → List Float → Float → List ℕ → ℕ → ℕ → List Float → Float
-multiplierOne p coefficients h pivots rank i lambda =
-    fdiv (fsub h (span (i + 1) rank (λ k known. fadd known (fmul (cell coefficients p i (index pivots k)) (at lambda (index pivots k)))) f0))
-    (cell coefficients p i (index pivots i))
+-- `self.pivots[first..].iter().map(|&l| self.coefficients[(i, l)] * lambda[l]).sum()`
+unfoldable pub knownFrom : (p : ℕ) (coefficients : List Float) (pivots : List ℕ) (rank i first : ℕ) (lambda : List Float) → Float
+knownFrom p coefficients pivots rank i first lambda =
+    span first rank (λ k known. fadd known (fmul (cell coefficients p i (index pivots k)) (at lambda (index pivots k)))) f0
 
-unfoldable pub backwardOne : ℕ → List Float → List Float → List ℕ → ℕ → ℕ → List Float → List Float
+-- `(h[i] - known) / self.coefficients[(i, j)]`
+unfoldable pub multiplierOne : (p : ℕ) (coefficients : List Float) (h : Float) (pivots : List ℕ) (rank i : ℕ) (lambda : List Float) → Float
+multiplierOne p coefficients h pivots rank i lambda =
+    fdiv (fsub h (knownFrom p coefficients pivots rank i (i + 1) lambda)) (cell coefficients p i (index pivots i))
+
+unfoldable pub backwardOne : (p : ℕ) (coefficients h : List Float) (pivots : List ℕ) (rank i : ℕ) (lambda : List Float) → List Float
 backwardOne p coefficients h pivots rank i lambda = set lambda (index pivots i) (multiplierOne p coefficients (at h i) pivots rank i lambda)
 
-unfoldable pub backward : ℕ → List Float → List Float → List ℕ → ℕ → List Float → List Float
+unfoldable pub backward : (p : ℕ) (coefficients h : List Float) (pivots : List ℕ) (rank : ℕ) (lambda : List Float) → List Float
 backward p coefficients h pivots rank lambda = fold rank (λ t. backwardOne p coefficients h pivots rank (rank - 1 - t)) lambda
 
-unfoldable pub multipliers : ℕ → ℕ → List Float → List Float → List Float → List ℕ → ℕ → List Float
+unfoldable pub multipliers : (n m : ℕ) (range coefficients g : List Float) (pivots : List ℕ) (rank : ℕ) → List Float
 multipliers n m range coefficients g pivots rank =
     backward (min n m) coefficients (trMulVec n rank range g) pivots rank (filled m f0)

@@ -5,18 +5,12 @@ ghost use mathlib.Core.Path.{_≡_};
 ghost use mathlib.Core.Bool.{false};
 ghost use Prim.Native.Nat.{_≤_, _<_, _+_, _-_, _*_, min};
 ghost use lib.ListN.{length, take};
-ghost use Rattle.folds.specs.Fold.{tab, over};
+ghost use Rattle.folds.specs.Fold.{fold, tab, over};
+ghost use Rattle.sizes.specs.Sizes as Sizes;
 ghost use Rattle.vector.specs.Vector.{Below};
 ghost use Rattle.matrix.specs.Matrix as Matrix;
 ghost use Rattle.pivoting.specs.Pivoting.{Taken};
 ghost use Rattle.constraints.specs.Constraints as Definition;
-
-pub struct Constraints {
-    pub range: [f64; 768],
-    pub null: [f64; 1024],
-    pub coefficients: [f64; 576],
-    pub pivots: Pivots,
-}
 
 // Qᵀ, of the reflections that `range` makes; `made` starts as false.
 fn q_transpose_in(
@@ -27,7 +21,12 @@ fn q_transpose_in(
     made: &mut [bool],
     q: &mut [f64],
 )
-    requires { ⌜ (length (now range) ≡ n * rank) × (length (now reflectors) ≡ n * rank) × (now made ≡ tab rank (λ _. false)) × (length (now q) ≡ n * n) × (rank ≤ n) × (n ≤ 32) ⌝ }
+    requires { ⌜ (length (now range) ≡ n * rank)
+        × (length (now reflectors) ≡ n * rank)
+        × (now made ≡ tab rank (λ _. false))
+        × (length (now q) ≡ n * n)
+        × (rank ≤ n)
+        × (n ≤ Sizes.originals) ⌝ }
     ensures { λ _. ⌜ now (q .exit) ≡ Definition.qTranspose n rank (now (range .entry)) ⌝ }
 {
     matrix::identity(q, n);
@@ -36,29 +35,33 @@ fn q_transpose_in(
     householder::q_tr_mul(&reflectors[..], n, rank, &made[..], q, n);
 }
 
-fn q_transpose(range: &[f64], n: usize, rank: usize) -> [f64; 1024]
-    requires { ⌜ (length (now range) ≡ n * rank) × (rank ≤ n) × (rank ≤ 24) × (n ≤ 32) ⌝ }
-    ensures { λ r. ⌜ take (n * n) r ≡ Definition.qTranspose n rank (now (range .entry)) ⌝ }
+// Qᵀ, of the reflections that `range` makes, over the start of q; `room` has place for them.
+fn q_transpose(range: &[f64], n: usize, rank: usize, room: &mut [f64], q: &mut [f64])
+    requires { ⌜ (length (now range) ≡ n * rank)
+        × (n * rank ≤ length (now room))
+        × (n * n ≤ length (now q))
+        × (rank ≤ n)
+        × (rank ≤ Sizes.columns)
+        × (n ≤ Sizes.originals) ⌝ }
+    ensures { λ _. ⌜ take (n * n) (now (q .exit)) ≡ Definition.qTranspose n rank (now (range .entry)) ⌝ }
 {
-    let mut reflectors = [0.0; 768];
-    let mut made = [false; 24];
-    let mut q = [0.0; 1024];
+    let mut made = [false; sizes::COLUMNS];
     let entries = n * rank;
     let square = n * n;
     q_transpose_in(
         range,
         n,
         rank,
-        &mut reflectors[..entries],
+        &mut room[..entries],
         &mut made[..rank],
         &mut q[..square],
     );
-    q
 }
 
 fn rows_transposed_column(q: &[f64], n: usize, rank: usize, d: usize, j: usize, z: &mut [f64])
     requires { ⌜ (n * n ≤ length (now q)) × (rank + d ≡ n) × (j < d) × (n * d ≤ length (now z)) ⌝ }
-    ensures { λ _. ⌜ now (z .exit) ≡ Matrix.putColumn n n j (λ i. Matrix.cell (now (q .entry)) n (rank + j) i) (now (z .entry)) ⌝ }
+    ensures { λ _. ⌜ now (z .exit)
+        ≡ Matrix.putColumn n n j (λ i. Matrix.cell (now (q .entry)) n (rank + j) i) (now (z .entry)) ⌝ }
 {
     for i in 0..n {
         let v = matrix::get(q, n, n, rank + j, i);
@@ -66,7 +69,8 @@ fn rows_transposed_column(q: &[f64], n: usize, rank: usize, d: usize, j: usize, 
     }
 }
 
-fn rows_transposed_in(q: &[f64], n: usize, rank: usize, d: usize, z: &mut [f64])
+// `q.rows(rank, d).transpose()`, with d = n - rank.
+fn rows_transposed(q: &[f64], n: usize, rank: usize, d: usize, z: &mut [f64])
     requires { ⌜ (n * n ≤ length (now q)) × (rank + d ≡ n) × (n * d ≤ length (now z)) ⌝ }
     ensures { λ _. ⌜ now (z .exit) ≡ over (Definition.rowsTransposed n rank d (now (q .entry))) (now (z .entry)) ⌝ }
 {
@@ -75,85 +79,149 @@ fn rows_transposed_in(q: &[f64], n: usize, rank: usize, d: usize, z: &mut [f64])
     }
 }
 
-// `q.rows(rank, d).transpose()`, with d = n - rank.
-fn rows_transposed(q: &[f64], n: usize, rank: usize, d: usize) -> [f64; 1024]
-    requires { ⌜ (n * n ≤ length (now q)) × (rank + d ≡ n) × (n ≤ 32) ⌝ }
-    ensures { λ r. ⌜ take (n * d) r ≡ Definition.rowsTransposed n rank d (now (q .entry)) ⌝ }
+// `null -= &range * (range.transpose() * &null)`; the products stand in `part` and `spanned`.
+fn less_range(
+    null: &mut [f64],
+    range: &[f64],
+    n: usize,
+    rank: usize,
+    d: usize,
+    part: &mut [f64],
+    spanned: &mut [f64],
+)
+    requires { ⌜ (length (now null) ≡ n * d)
+        × (n * rank ≤ length (now range))
+        × (length (now part) ≡ rank * d)
+        × (length (now spanned) ≡ n * d) ⌝ }
+    ensures { λ _. ⌜ now (null .exit) ≡ Definition.lessRange n rank d (now (range .entry)) (now (null .entry)) ⌝ }
 {
-    let mut z = [0.0; 1024];
-    rows_transposed_in(q, n, rank, d, &mut z);
-    z
+    matrix::tr_mul(range, n, rank, &null[..], d, part);
+    matrix::mul(range, n, rank, &part[..], d, spanned);
+    vector::sub_from(null, n * d, &spanned[..]);
 }
 
-// `null -= &range * (range.transpose() * &null)`
-fn less_range(null: &[f64], range: &[f64], n: usize, rank: usize, d: usize) -> [f64; 1024]
-    requires { ⌜ (n * d ≤ length (now null)) × (n * rank ≤ length (now range)) × (rank + d ≡ n) × (n ≤ 32) ⌝ }
-    ensures { λ r. ⌜ take (n * d) r ≡ Definition.lessRange n rank d (now (range .entry)) (now (null .entry)) ⌝ }
+// Twice, since the first pass can only cancel an error much larger than the entry.
+fn less_range_twice(
+    null: &mut [f64],
+    range: &[f64],
+    n: usize,
+    rank: usize,
+    d: usize,
+    part: &mut [f64],
+    spanned: &mut [f64],
+)
+    requires { ⌜ (length (now null) ≡ n * d)
+        × (n * rank ≤ length (now range))
+        × (length (now part) ≡ rank * d)
+        × (length (now spanned) ≡ n * d) ⌝ }
+    ensures { λ _. ⌜ now (null .exit) ≡ fold 2 (λ _. Definition.lessRange n rank d (now (range .entry))) (now (null .entry)) ⌝ }
 {
-    let part = dense::tr_mul(range, n, rank, null, d);
-    let rows = rank * d;
-    let spanned = dense::mul(range, n, rank, &part[..rows], d);
-    let entries = n * d;
-    dense::sub_matrix(null, &spanned[..entries], n, d)
-}
-
-fn identity(n: usize) -> [f64; 1024]
-    requires { ⌜ n ≤ 32 ⌝ }
-    ensures { λ r. ⌜ take (n * n) r ≡ Matrix.identity n ⌝ }
-{
-    let mut z = [0.0; 1024];
-    matrix::identity(&mut z, n);
-    z
-}
-
-fn null_space(range: &[f64], n: usize, rank: usize) -> [f64; 1024]
-    requires { ⌜ (length (now range) ≡ n * rank) × (rank ≤ n) × (rank ≤ 24) × (n ≤ 32) ⌝ }
-    ensures { λ r. ⌜ take (n * (n - rank)) r ≡ Definition.nullSpace n rank (now (range .entry)) ⌝ }
-{
-    if rank == 0 {
-        return identity(n);
+    for _ in 0..2usize {
+        less_range(null, range, n, rank, d, part, spanned);
     }
-    let q = q_transpose(range, n, rank);
+}
+
+// Z from Y over the start of `null`, where Y is not empty; `room` and `q` are work memory.
+fn completed(
+    range: &[f64],
+    n: usize,
+    rank: usize,
+    room: &mut [f64],
+    q: &mut [f64],
+    null: &mut [f64],
+)
+    requires { ⌜ (length (now range) ≡ n * rank)
+        × (n * rank ≤ length (now room))
+        × (rank * (n - rank) ≤ length (now room))
+        × (n * n ≤ length (now q))
+        × (n * n ≤ length (now null))
+        × (rank ≤ n)
+        × (rank ≤ Sizes.columns)
+        × (n ≤ Sizes.originals) ⌝ }
+    ensures { λ _. ⌜ take (n * (n - rank)) (now (null .exit)) ≡ Definition.completed n rank (now (range .entry)) ⌝ }
+{
     let d = n - rank;
     let square = n * n;
     let entries = n * d;
-    let rest = rows_transposed(&q[..square], n, rank, d);
-    let once = less_range(&rest[..entries], range, n, rank, d);
-    less_range(&once[..entries], range, n, rank, d)
+    let part = rank * d;
+    q_transpose(range, n, rank, room, q);
+    rows_transposed(&q[..square], n, rank, d, null);
+    less_range_twice(
+        &mut null[..entries],
+        range,
+        n,
+        rank,
+        d,
+        &mut room[..part],
+        &mut q[..entries],
+    );
 }
 
-impl Constraints {
-    pub fn new(e: &[f64], n: usize, m: usize) -> Constraints
-        requires { ⌜ (n * m ≤ length (now e)) × (n ≤ 32) × (m ≤ 24) ⌝ }
-        ensures { λ r. ⌜ Definition.constraintsOf n m r ≡ Definition.new n m (now (e .entry)) ⌝ }
-        ensures { λ r. ⌜ Taken (min n m) m (r .pivots) ⌝ }
-    {
-        let mut left = [0.0; 768];
-        let mut coefficients = [0.0; 576];
-        let mut range = [0.0; 768];
-        let p = pivoting::smaller_of(n, m);
-        let entries = n * m;
-        let t = p * m;
-        let y = n * p;
-        let pivots = pivoting::factored(
-            e,
-            n,
-            m,
-            p,
-            &mut left[..entries],
-            &mut coefficients[..t],
-            &mut range[..y],
-        );
-        let rank = pivots.rank;
-        let columns = n * rank;
-        let null = null_space(&range[..columns], n, rank);
-        Constraints {
-            range: range,
-            null: null,
-            coefficients: coefficients,
-            pivots: pivots,
-        }
+fn null_space(
+    range: &[f64],
+    n: usize,
+    rank: usize,
+    room: &mut [f64],
+    q: &mut [f64],
+    null: &mut [f64],
+)
+    requires { ⌜ (length (now range) ≡ n * rank)
+        × (n * rank ≤ length (now room))
+        × (rank * (n - rank) ≤ length (now room))
+        × (n * n ≤ length (now q))
+        × (n * n ≤ length (now null))
+        × (rank ≤ n)
+        × (rank ≤ Sizes.columns)
+        × (n ≤ Sizes.originals) ⌝ }
+    ensures { λ _. ⌜ take (n * (n - rank)) (now (null .exit)) ≡ Definition.nullSpace n rank (now (range .entry)) ⌝ }
+{
+    if rank == 0 {
+        matrix::identity(null, n);
+        return;
     }
+    completed(range, n, rank, room, q, null);
+}
+
+// `Constraints::new`: Y, Z and T at the start of `range`, `null` and `coefficients`, and the columns taken; `left` and `q` are work memory.
+pub fn new(
+    e: &[f64],
+    n: usize,
+    m: usize,
+    left: &mut [f64],
+    coefficients: &mut [f64],
+    range: &mut [f64],
+    q: &mut [f64],
+    null: &mut [f64],
+) -> Pivots
+    requires { ⌜ (n * m ≤ length (now e))
+        × (n ≤ Sizes.originals)
+        × (m ≤ Sizes.columns)
+        × (n * m ≤ length (now left))
+        × (min n m * m ≤ length (now coefficients))
+        × (n * min n m ≤ length (now range))
+        × (n * n ≤ length (now q))
+        × (n * n ≤ length (now null)) ⌝ }
+    ensures { λ r. ⌜ Definition.constraintsOf n m (now (range .exit)) (now (null .exit)) (now (coefficients .exit)) r
+        ≡ Definition.new n m (now (e .entry)) ⌝ }
+    ensures { λ r. ⌜ Taken (min n m) m r ⌝ }
+{
+    let p = pivoting::smaller_of(n, m);
+    let entries = n * m;
+    let t = p * m;
+    let y = n * p;
+    let pivots = pivoting::factored(
+        e,
+        n,
+        m,
+        p,
+        &mut left[..entries],
+        &mut coefficients[..t],
+        &mut range[..y],
+    );
+    let rank = pivots.rank;
+    let columns = n * rank;
+    null_space(&range[..columns], n, rank, left, q, null);
+    pivots
 }
 
 fn feasible_one(
@@ -185,7 +253,12 @@ fn forward(
     rank: usize,
     u: &mut [f64],
 )
-    requires { ⌜ (p * m ≤ length (now coefficients)) × (m ≤ length (now b)) × (rank ≤ length (now pivots)) × (rank ≤ p) × Below rank (now pivots) m × (rank ≤ length (now u)) ⌝ }
+    requires { ⌜ (p * m ≤ length (now coefficients))
+        × (m ≤ length (now b))
+        × (rank ≤ length (now pivots))
+        × (rank ≤ p)
+        × Below rank (now pivots) m
+        × (rank ≤ length (now u)) ⌝ }
     ensures { λ _. ⌜ now (u .exit) ≡ Definition.forward p (now (coefficients .entry)) (now (b .entry)) (now (pivots .entry)) rank (now (u .entry)) ⌝ }
 {
     for i in 0..rank {
@@ -202,14 +275,49 @@ pub fn smallest_feasible(
     b: &[f64],
     pivots: &[usize],
     rank: usize,
-) -> [f64; 48]
-    requires { ⌜ (n * rank ≤ length (now range)) × (min n m * m ≤ length (now coefficients)) × (m ≤ length (now b)) × (rank ≤ length (now pivots)) × (rank ≤ min n m) × Below rank (now pivots) m × (n ≤ 32) ⌝ }
-    ensures { λ r. ⌜ take n r ≡ Definition.smallestFeasible n m (now (range .entry)) (now (coefficients .entry)) (now (b .entry)) (now (pivots .entry)) rank ⌝ }
+) -> [f64; sizes::VARIABLES]
+    requires { ⌜ (n * rank ≤ length (now range))
+        × (min n m * m ≤ length (now coefficients))
+        × (m ≤ length (now b))
+        × (rank ≤ length (now pivots))
+        × (rank ≤ min n m)
+        × Below rank (now pivots) m
+        × (n ≤ Sizes.originals)
+        × (m ≤ Sizes.columns) ⌝ }
+    ensures { λ r. ⌜ take n r
+        ≡ Definition.smallestFeasible n m (now (range .entry)) (now (coefficients .entry)) (now (b .entry)) (now (pivots .entry)) rank ⌝ }
 {
-    let mut u = [0.0; 32];
+    let mut u = [0.0; sizes::COLUMNS];
     let p = pivoting::smaller_of(n, m);
     forward(coefficients, p, m, b, pivots, rank, &mut u[..rank]);
     dense::mul_vec(range, n, rank, &u[..rank])
+}
+
+// The terms of row i of T whose multipliers are known, those of the pivots from place `first` on.
+fn known_from(
+    coefficients: &[f64],
+    p: usize,
+    m: usize,
+    pivots: &[usize],
+    rank: usize,
+    i: usize,
+    first: usize,
+    lambda: &[f64],
+) -> f64
+    requires { ⌜ (p * m ≤ length (now coefficients))
+        × (rank ≤ length (now pivots))
+        × Below rank (now pivots) m
+        × (i < p)
+        × (first ≤ rank)
+        × (m ≤ length (now lambda)) ⌝ }
+    ensures { λ r. ⌜ r ≡ Definition.knownFrom p (now (coefficients .entry)) (now (pivots .entry)) rank i first (now (lambda .entry)) ⌝ }
+{
+    let mut known = 0.0;
+    for k in first..rank {
+        let l = pivots[k];
+        known = known + matrix::get(coefficients, p, m, i, l) * lambda[l];
+    }
+    known
 }
 
 fn multiplier_one(
@@ -222,14 +330,15 @@ fn multiplier_one(
     i: usize,
     lambda: &[f64],
 ) -> f64
-    requires { ⌜ (p * m ≤ length (now coefficients)) × (rank ≤ length (now pivots)) × (rank ≤ p) × Below rank (now pivots) m × (i < rank) × (m ≤ length (now lambda)) ⌝ }
+    requires { ⌜ (p * m ≤ length (now coefficients))
+        × (rank ≤ length (now pivots))
+        × (rank ≤ p)
+        × Below rank (now pivots) m
+        × (i < rank)
+        × (m ≤ length (now lambda)) ⌝ }
     ensures { λ r. ⌜ r ≡ Definition.multiplierOne p (now (coefficients .entry)) h (now (pivots .entry)) rank i (now (lambda .entry)) ⌝ }
 {
-    let mut known = 0.0;
-    for k in i + 1..rank {
-        let l = pivots[k];
-        known = known + matrix::get(coefficients, p, m, i, l) * lambda[l];
-    }
+    let known = known_from(coefficients, p, m, pivots, rank, i, i + 1, lambda);
     (h - known) / matrix::get(coefficients, p, m, i, pivots[i])
 }
 
@@ -242,8 +351,14 @@ fn backward(
     rank: usize,
     lambda: &mut [f64],
 )
-    requires { ⌜ (p * m ≤ length (now coefficients)) × (rank ≤ length (now h)) × (rank ≤ length (now pivots)) × (rank ≤ p) × Below rank (now pivots) m × (m ≤ length (now lambda)) ⌝ }
-    ensures { λ _. ⌜ now (lambda .exit) ≡ Definition.backward p (now (coefficients .entry)) (now (h .entry)) (now (pivots .entry)) rank (now (lambda .entry)) ⌝ }
+    requires { ⌜ (p * m ≤ length (now coefficients))
+        × (rank ≤ length (now h))
+        × (rank ≤ length (now pivots))
+        × (rank ≤ p)
+        × Below rank (now pivots) m
+        × (m ≤ length (now lambda)) ⌝ }
+    ensures { λ _. ⌜ now (lambda .exit)
+        ≡ Definition.backward p (now (coefficients .entry)) (now (h .entry)) (now (pivots .entry)) rank (now (lambda .entry)) ⌝ }
 {
     for t in 0..rank {
         let i = rank - 1 - t;
@@ -261,11 +376,18 @@ pub fn multipliers(
     g: &[f64],
     pivots: &[usize],
     rank: usize,
-) -> [f64; 24]
-    requires { ⌜ (n * rank ≤ length (now range)) × (min n m * m ≤ length (now coefficients)) × (n ≤ length (now g)) × (rank ≤ length (now pivots)) × (rank ≤ min n m) × Below rank (now pivots) m × (m ≤ 24) ⌝ }
-    ensures { λ r. ⌜ take m r ≡ Definition.multipliers n m (now (range .entry)) (now (coefficients .entry)) (now (g .entry)) (now (pivots .entry)) rank ⌝ }
+) -> [f64; sizes::COLUMNS]
+    requires { ⌜ (n * rank ≤ length (now range))
+        × (min n m * m ≤ length (now coefficients))
+        × (n ≤ length (now g))
+        × (rank ≤ length (now pivots))
+        × (rank ≤ min n m)
+        × Below rank (now pivots) m
+        × (m ≤ Sizes.columns) ⌝ }
+    ensures { λ r. ⌜ take m r
+        ≡ Definition.multipliers n m (now (range .entry)) (now (coefficients .entry)) (now (g .entry)) (now (pivots .entry)) rank ⌝ }
 {
-    let mut lambda = [0.0; 24];
+    let mut lambda = [0.0; sizes::COLUMNS];
     let p = pivoting::smaller_of(n, m);
     let h = dense::tr_mul_vec(range, n, rank, g);
     backward(

@@ -3,26 +3,36 @@ ghost use mathlib.Core.Path.{_≡_};
 ghost use Prim.Native.Nat.{_≤_, _*_};
 ghost use lib.ListN.{length, take};
 ghost use Rattle.vector.specs.Vector as Vector;
+ghost use Rattle.sizes.specs.Sizes as Sizes;
+ghost use Rattle.scaled.specs.System.{Sized, system};
 ghost use Rattle.solution.specs.Solution.{answer, solutionOf};
-ghost use Rattle.kkt.specs.Kkt.{engine};
+ghost use Rattle.noisy_kkt.specs.Room.{Squares, Tall};
+ghost use Rattle.kkt.specs.Kkt.{engine, Answered, Written};
 ghost use Rattle.kkt.specs.Kkt as Definition;
 use solution::Solution;
 use solution::Verdict;
 
+// The entries of a matrix of work memory: n by n and n by m, and either where n is at most 8.
+const SQUARE: usize = sizes::ORIGINALS * sizes::ORIGINALS;
+
+const TALL: usize = sizes::ORIGINALS * sizes::EQUALITIES;
+
+const SMALL: usize = 8 * sizes::EQUALITIES;
+
 // `original_multipliers`
-fn original_multipliers(multipliers: &[f64], columns: &[f64], m: usize) -> [f64; 24]
-    requires { ⌜ (m ≤ 24) × (m ≤ length (now multipliers)) × (m ≤ length (now columns)) ⌝ }
+fn original_multipliers(multipliers: &[f64], columns: &[f64], m: usize) -> [f64; sizes::COLUMNS]
+    requires { ⌜ (m ≤ Sizes.columns) × (m ≤ length (now multipliers)) × (m ≤ length (now columns)) ⌝ }
     ensures { λ r. ⌜ take m r ≡ Vector.div m (now (multipliers .entry)) (now (columns .entry)) ⌝ }
 {
-    let mut y = [0.0; 24];
+    let mut y = [0.0; sizes::COLUMNS];
     vector::div(multipliers, columns, m, &mut y);
     y
 }
 
 // A solution in `Units`, restored and checked against the constraints.
 fn restored(
-    u: [f64; 48],
-    multipliers: [f64; 24],
+    u: [f64; sizes::VARIABLES],
+    multipliers: [f64; sizes::COLUMNS],
     e: &[f64],
     b: &[f64],
     scales: &[f64],
@@ -30,8 +40,14 @@ fn restored(
     n: usize,
     m: usize,
 ) -> Solution
-    requires { ⌜ (n ≤ 32) × (m ≤ 24) × (n * m ≤ length (now e)) × (m ≤ length (now b)) × (n ≤ length (now scales)) × (m ≤ length (now columns)) ⌝ }
-    ensures { λ r. ⌜ solutionOf n m r ≡ Definition.restored n m (now (e .entry)) (now (b .entry)) (now (scales .entry)) (now (columns .entry)) (take n u) (take m multipliers) ⌝ }
+    requires { ⌜ (n ≤ Sizes.originals)
+        × (m ≤ Sizes.columns)
+        × (n * m ≤ length (now e))
+        × (m ≤ length (now b))
+        × (n ≤ length (now scales))
+        × (m ≤ length (now columns)) ⌝ }
+    ensures { λ r. ⌜ solutionOf n m r
+        ≡ Definition.restored n m (now (e .entry)) (now (b .entry)) (now (scales .entry)) (now (columns .entry)) (take n u) (take m multipliers) ⌝ }
 {
     let x = dense::div(&u[..n], scales, n);
     if units::checked(&x[..n], e, b, columns, n, m) {
@@ -48,8 +64,8 @@ fn restored(
 // `Ok(None)` and what is refused pass.
 fn original(
     verdict: Verdict,
-    u: [f64; 48],
-    multipliers: [f64; 24],
+    u: [f64; sizes::VARIABLES],
+    multipliers: [f64; sizes::COLUMNS],
     e: &[f64],
     b: &[f64],
     scales: &[f64],
@@ -57,8 +73,15 @@ fn original(
     n: usize,
     m: usize,
 ) -> Solution
-    requires { ⌜ (n ≤ 32) × (m ≤ 24) × (n * m ≤ length (now e)) × (m ≤ length (now b)) × (n ≤ length (now scales)) × (m ≤ length (now columns)) ⌝ }
-    ensures { λ r. ⌜ solutionOf n m r ≡ Definition.original n m (now (e .entry)) (now (b .entry)) (now (scales .entry)) (now (columns .entry)) (answer verdict (take n u) (take m multipliers)) ⌝ }
+    requires { ⌜ (n ≤ Sizes.originals)
+        × (m ≤ Sizes.columns)
+        × (n * m ≤ length (now e))
+        × (m ≤ length (now b))
+        × (n ≤ length (now scales))
+        × (m ≤ length (now columns)) ⌝ }
+    ensures { λ r. ⌜ solutionOf n m r
+        ≡ Definition.original n m (now (e .entry)) (now (b .entry)) (now (scales .entry)) (now (columns .entry))
+        (answer verdict (take n u) (take m multipliers)) ⌝ }
 {
     match verdict {
         Verdict::Solved => restored(u, multipliers, e, b, scales, columns, n, m),
@@ -68,18 +91,43 @@ fn original(
     }
 }
 
-// The solve in `Units`, and back.
-fn solve_shaped(k: &[f64], c: &[f64], e: &[f64], b: &[f64], n: usize, m: usize) -> Solution
-    requires { ⌜ (n ≤ 32) × (m ≤ 24) × (n * n ≤ 1024) × (n * m ≤ 768) × (n * n ≤ length (now k)) × (n ≤ length (now c)) × (n * m ≤ length (now e)) × (m ≤ length (now b)) ⌝ }
-    ensures { λ r. ⌜ solutionOf n m r ≡ Definition.solveShaped n m (now (k .entry)) (now (c .entry)) (now (e .entry)) (now (b .entry)) ⌝ }
+// The solve in `Units`, and back. The slices from uk on are work memory.
+fn solve_in(
+    k: &[f64],
+    c: &[f64],
+    e: &[f64],
+    b: &[f64],
+    n: usize,
+    m: usize,
+    uk: &mut [f64],
+    ue: &mut [f64],
+    ks: &mut [f64],
+    es: &mut [f64],
+    left: &mut [f64],
+    coefficients: &mut [f64],
+    range: &mut [f64],
+    q: &mut [f64],
+    null: &mut [f64],
+    h: &mut [f64],
+    vectors: &mut [f64],
+) -> Solution
+    requires { ⌜ Sized n m (now k) (now c) (now e) (now b)
+        × (n * n ≤ length (now uk))
+        × (n * m ≤ length (now ue))
+        × (n * n ≤ length (now ks))
+        × (n * m ≤ length (now es))
+        × Tall n m (now left) (now coefficients) (now range)
+        × Squares n (now q) (now null) (now h) (now vectors) ⌝ }
+    ensures { λ r. ⌜ solutionOf n m r
+        ≡ Definition.solveUnits (system n m (now (k .entry)) (now (c .entry)) (now (e .entry)) (now (b .entry))) ⌝ }
 {
     let scales = units::diagonal_scales(k, n);
     let columns = units::column_scales(e, n, m);
     let square = n * n;
     let entries = n * m;
-    let uk = units::units_k(k, n, &scales[..n]);
+    units::units_k(k, n, &scales[..n], uk);
+    units::units_e(e, n, m, &scales[..n], &columns[..m], ue);
     let uc = dense::div(c, &scales[..n], n);
-    let ue = units::units_e(e, n, m, &scales[..n], &columns[..m]);
     let ub = dense::div(b, &columns[..m], m);
     let s = noisy_kkt::solve_noisy_kkt(
         &uk[..square],
@@ -89,6 +137,15 @@ fn solve_shaped(k: &[f64], c: &[f64], e: &[f64], b: &[f64], n: usize, m: usize) 
         n,
         m,
         0.0,
+        ks,
+        es,
+        left,
+        coefficients,
+        range,
+        q,
+        null,
+        h,
+        vectors,
     );
     let verdict = s.verdict;
     let u = s.x;
@@ -106,6 +163,93 @@ fn solve_shaped(k: &[f64], c: &[f64], e: &[f64], b: &[f64], n: usize, m: usize) 
     )
 }
 
+// A small system in little memory: what a call clears would otherwise cost more than the solve.
+fn solve_small(k: &[f64], c: &[f64], e: &[f64], b: &[f64], n: usize, m: usize) -> Solution
+    requires { ⌜ Sized n m (now k) (now c) (now e) (now b) × (n ≤ 8) × (m ≤ Sizes.equalities) ⌝ }
+    ensures { λ r. ⌜ solutionOf n m r
+        ≡ Definition.solveUnits (system n m (now (k .entry)) (now (c .entry)) (now (e .entry)) (now (b .entry))) ⌝ }
+{
+    let mut uk = [0.0; SMALL];
+    let mut ue = [0.0; SMALL];
+    let mut ks = [0.0; SMALL];
+    let mut es = [0.0; SMALL];
+    let mut left = [0.0; SMALL];
+    let mut coefficients = [0.0; SMALL];
+    let mut range = [0.0; SMALL];
+    let mut q = [0.0; SMALL];
+    let mut null = [0.0; SMALL];
+    let mut h = [0.0; SMALL];
+    let mut vectors = [0.0; SMALL];
+    solve_in(
+        k,
+        c,
+        e,
+        b,
+        n,
+        m,
+        &mut uk,
+        &mut ue,
+        &mut ks,
+        &mut es,
+        &mut left,
+        &mut coefficients,
+        &mut range,
+        &mut q,
+        &mut null,
+        &mut h,
+        &mut vectors,
+    )
+}
+
+fn solve_large(k: &[f64], c: &[f64], e: &[f64], b: &[f64], n: usize, m: usize) -> Solution
+    requires { ⌜ Sized n m (now k) (now c) (now e) (now b) × (m ≤ Sizes.equalities) ⌝ }
+    ensures { λ r. ⌜ solutionOf n m r
+        ≡ Definition.solveUnits (system n m (now (k .entry)) (now (c .entry)) (now (e .entry)) (now (b .entry))) ⌝ }
+{
+    let mut uk = [0.0; SQUARE];
+    let mut ue = [0.0; TALL];
+    let mut ks = [0.0; SQUARE];
+    let mut es = [0.0; TALL];
+    let mut left = [0.0; TALL];
+    let mut coefficients = [0.0; TALL];
+    let mut range = [0.0; TALL];
+    let mut q = [0.0; SQUARE];
+    let mut null = [0.0; SQUARE];
+    let mut h = [0.0; SQUARE];
+    let mut vectors = [0.0; SQUARE];
+    solve_in(
+        k,
+        c,
+        e,
+        b,
+        n,
+        m,
+        &mut uk,
+        &mut ue,
+        &mut ks,
+        &mut es,
+        &mut left,
+        &mut coefficients,
+        &mut range,
+        &mut q,
+        &mut null,
+        &mut h,
+        &mut vectors,
+    )
+}
+
+// The solve in work memory of its size.
+fn solve_shaped(k: &[f64], c: &[f64], e: &[f64], b: &[f64], n: usize, m: usize) -> Solution
+    requires { ⌜ Sized n m (now k) (now c) (now e) (now b) × (m ≤ Sizes.equalities) ⌝ }
+    ensures { λ r. ⌜ solutionOf n m r
+        ≡ Definition.solveUnits (system n m (now (k .entry)) (now (c .entry)) (now (e .entry)) (now (b .entry))) ⌝ }
+{
+    if n <= 8 {
+        return solve_small(k, c, e, b, n, m);
+    }
+    solve_large(k, c, e, b, n, m)
+}
+
 // Whether each slice has the length that the counts give it.
 fn shaped(
     n: usize,
@@ -119,10 +263,10 @@ fn shaped(
 ) -> bool
     ensures { λ r. ⌜ r ≡ Definition.shaped n m k c e b x multipliers ⌝ }
 {
-    if n > 32 {
+    if n > sizes::ORIGINALS {
         return false;
     }
-    if m > 8 {
+    if m > sizes::EQUALITIES {
         return false;
     }
     if k != n * n {
@@ -146,17 +290,16 @@ fn shaped(
 // The number of a verdict; where it is Solved, x and the multipliers are written.
 fn write(
     verdict: Verdict,
-    optimum: [f64; 48],
-    lambda: [f64; 24],
+    optimum: [f64; sizes::VARIABLES],
+    lambda: [f64; sizes::COLUMNS],
     n: usize,
     m: usize,
     x: &mut [f64],
     multipliers: &mut [f64],
 ) -> u32
-    requires { ⌜ (n ≤ 32) × (m ≤ 24) × (length (now x) ≡ n) × (length (now multipliers) ≡ m) ⌝ }
-    ensures { λ r. ⌜ r ≡ Definition.number (engine (answer verdict (take n optimum) (take m lambda))) ⌝ }
-    ensures { λ _. ⌜ now (x .exit) ≡ Definition.xOr (engine (answer verdict (take n optimum) (take m lambda))) (now (x .entry)) ⌝ }
-    ensures { λ _. ⌜ now (multipliers .exit) ≡ Definition.multipliersOr (engine (answer verdict (take n optimum) (take m lambda))) (now (multipliers .entry)) ⌝ }
+    requires { ⌜ (n ≤ Sizes.originals) × (m ≤ Sizes.columns) × (length (now x) ≡ n) × (length (now multipliers) ≡ m) ⌝ }
+    ensures { λ r. ⌜ Written (engine (answer verdict (take n optimum) (take m lambda))) r
+        (now (x .entry)) (now (x .exit)) (now (multipliers .entry)) (now (multipliers .exit)) ⌝ }
 {
     match verdict {
         Verdict::Solved => {
@@ -181,9 +324,8 @@ pub fn solve_kkt(
     x: &mut [f64],
     multipliers: &mut [f64],
 ) -> u32
-    ensures { λ r. ⌜ r ≡ Definition.number (Definition.solveKkt n m (now (k .entry)) (now (c .entry)) (now (e .entry)) (now (b .entry)) (length (now (x .entry))) (length (now (multipliers .entry)))) ⌝ }
-    ensures { λ _. ⌜ now (x .exit) ≡ Definition.xOr (Definition.solveKkt n m (now (k .entry)) (now (c .entry)) (now (e .entry)) (now (b .entry)) (length (now (x .entry))) (length (now (multipliers .entry)))) (now (x .entry)) ⌝ }
-    ensures { λ _. ⌜ now (multipliers .exit) ≡ Definition.multipliersOr (Definition.solveKkt n m (now (k .entry)) (now (c .entry)) (now (e .entry)) (now (b .entry)) (length (now (x .entry))) (length (now (multipliers .entry)))) (now (multipliers .entry)) ⌝ }
+    ensures { λ r. ⌜ Answered (system n m (now (k .entry)) (now (c .entry)) (now (e .entry)) (now (b .entry))) r
+        (now (x .entry)) (now (x .exit)) (now (multipliers .entry)) (now (multipliers .exit)) ⌝ }
 {
     if shaped(
         n,

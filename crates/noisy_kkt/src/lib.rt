@@ -1,12 +1,15 @@
-// qp.rs, `solve_noisy_kkt`. K is n by n, E is n by m, with up to 32 variables and 24 columns.
+// qp.rs, `solve_noisy_kkt`. K is n by n, E is n by m, with up to 32 variables and 24 columns. The slices that end a function's parameters are
+// work memory, of n * n entries (ks, q, null, h, vectors) or n * m (es, left, coefficients, range).
 ghost use mathlib.Core.Path.{_≡_};
 ghost use Prim.Native.Nat.{_≤_, _-_, _*_, min};
-ghost use lib.ListN.{length, take};
+ghost use lib.ListN.{length};
+ghost use Rattle.sizes.specs.Sizes as Sizes;
 ghost use Rattle.vector.specs.Vector.{Below};
-ghost use Rattle.constraints.specs.Constraints.{parts};
+ghost use Rattle.constraints.specs.Constraints.{constraints};
+ghost use Rattle.scaled.specs.System.{Sized, system};
 ghost use Rattle.solution.specs.Solution.{solutionOf};
 ghost use Rattle.noisy_kkt.specs.NoisyKkt as Definition;
-use constraints::Constraints;
+ghost use Rattle.noisy_kkt.specs.Room.{Squares, Tall};
 use scaled::Scale;
 use solution::Solution;
 use solution::Verdict;
@@ -14,19 +17,37 @@ use solution::Verdict;
 // x where ½xᵀKx − cᵀx is least over x0 + Zv, if the eigenvalues of ZᵀKZ were found.
 struct Point {
     found: bool,
-    x: [f64; 48],
+    x: [f64; sizes::VARIABLES],
 }
 
-fn minimum(k: &[f64], c: &[f64], z: &[f64], x0: &[f64], n: usize, d: usize) -> Point
-    requires { ⌜ (n ≤ 32) × (d ≤ n) × (n * n ≤ 1024) × (d * n ≤ 1024) × (d * d ≤ 1024) × (n * n ≤ length (now k)) × (n ≤ length (now c)) × (n * d ≤ length (now z)) × (n ≤ length (now x0)) ⌝ }
-    ensures { λ r. ⌜ Definition.pointOf n r ≡ Definition.minimum n d (now (k .entry)) (now (c .entry)) (now (z .entry)) (now (x0 .entry)) ⌝ }
+fn minimum(
+    k: &[f64],
+    c: &[f64],
+    z: &[f64],
+    x0: &[f64],
+    n: usize,
+    d: usize,
+    q: &mut [f64],
+    h: &mut [f64],
+    vectors: &mut [f64],
+) -> Point
+    requires { ⌜ (n ≤ Sizes.originals)
+        × (d ≤ n)
+        × (n * n ≤ length (now k))
+        × (n ≤ length (now c))
+        × (n * d ≤ length (now z))
+        × (n ≤ length (now x0))
+        × (n * n ≤ length (now q))
+        × (n * n ≤ length (now h))
+        × (n * n ≤ length (now vectors)) ⌝ }
+    ensures { λ r. ⌜ Definition.pointOf n r
+        ≡ Definition.minimum n d (now (k .entry)) (now (c .entry)) (now (z .entry)) (now (x0 .entry)) ⌝ }
 {
     let gradient = reduced::reduced_gradient(k, c, z, x0, n, d);
-    let hessian = reduced::reduced_hessian(k, z, n, d);
+    let hessian = reduced::reduced_hessian(k, z, n, d, q, h, vectors);
     let found = hessian.found;
     let cutoff = hessian.cutoff;
     let values = hessian.values;
-    let vectors = hessian.vectors;
     let square = d * d;
     let v = reduced::range_part(&values[..d], &vectors[..square], d, cutoff, &gradient[..d]);
     let x = reduced::moved(x0, z, &v[..d], n, d);
@@ -47,12 +68,26 @@ fn solve_over(
     n: usize,
     m: usize,
     noise: f64,
+    q: &mut [f64],
+    h: &mut [f64],
+    vectors: &mut [f64],
 ) -> Solution
-    requires { ⌜ (n ≤ 32) × (m ≤ 24) × (n * n ≤ 1024) × (n * m ≤ 768) × (n * n ≤ length (now k)) × (n ≤ length (now c)) × (n * m ≤ length (now e)) × (m ≤ length (now b)) × (rank ≤ n) × (rank ≤ min n m) × ((n - rank) * n ≤ 1024) × ((n - rank) * (n - rank) ≤ 1024) × (n * rank ≤ length (now range)) × (n * (n - rank) ≤ length (now null)) × (min n m * m ≤ length (now coefficients)) × (rank ≤ length (now pivots)) × Below rank (now pivots) m ⌝ }
-    ensures { λ r. ⌜ solutionOf n m r ≡ Definition.solveOver n m (now (k .entry)) (now (c .entry)) (now (e .entry)) (now (b .entry)) noise (parts rank (now (range .entry)) (now (null .entry)) (now (coefficients .entry)) (now (pivots .entry))) ⌝ }
+    requires { ⌜ Sized n m (now k) (now c) (now e) (now b)
+        × (rank ≤ min n m)
+        × (n * rank ≤ length (now range))
+        × (n * (n - rank) ≤ length (now null))
+        × (min n m * m ≤ length (now coefficients))
+        × (rank ≤ length (now pivots))
+        × Below rank (now pivots) m
+        × (n * n ≤ length (now q))
+        × (n * n ≤ length (now h))
+        × (n * n ≤ length (now vectors)) ⌝ }
+    ensures { λ r. ⌜ solutionOf n m r
+        ≡ Definition.solveOver (system n m (now (k .entry)) (now (c .entry)) (now (e .entry)) (now (b .entry))) noise
+        (constraints rank (now (range .entry)) (now (null .entry)) (now (coefficients .entry)) (now (pivots .entry))) ⌝ }
 {
     let x0 = constraints::smallest_feasible(range, coefficients, n, m, b, pivots, rank);
-    let least = minimum(k, c, null, &x0[..n], n, n - rank);
+    let least = minimum(k, c, null, &x0[..n], n, n - rank, q, h, vectors);
     let x = least.x;
     if least.found {
         let g = reduced::gradient(k, c, &x[..n], n);
@@ -79,15 +114,21 @@ fn solve_scaled(
     n: usize,
     m: usize,
     noise: f64,
+    left: &mut [f64],
+    coefficients: &mut [f64],
+    range: &mut [f64],
+    q: &mut [f64],
+    null: &mut [f64],
+    h: &mut [f64],
+    vectors: &mut [f64],
 ) -> Solution
-    requires { ⌜ (n ≤ 32) × (m ≤ 24) × (n * n ≤ 1024) × (n * m ≤ 768) × (n * n ≤ length (now k)) × (n ≤ length (now c)) × (n * m ≤ length (now e)) × (m ≤ length (now b)) ⌝ }
-    ensures { λ r. ⌜ solutionOf n m r ≡ Definition.solveScaled n m (now (k .entry)) (now (c .entry)) (now (e .entry)) (now (b .entry)) noise ⌝ }
+    requires { ⌜ Sized n m (now k) (now c) (now e) (now b)
+        × Tall n m (now left) (now coefficients) (now range)
+        × Squares n (now q) (now null) (now h) (now vectors) ⌝ }
+    ensures { λ r. ⌜ solutionOf n m r
+        ≡ Definition.solveScaled (system n m (now (k .entry)) (now (c .entry)) (now (e .entry)) (now (b .entry))) noise ⌝ }
 {
-    let constraints = Constraints::new(e, n, m);
-    let range = constraints.range;
-    let null = constraints.null;
-    let coefficients = constraints.coefficients;
-    let pivots = constraints.pivots;
+    let pivots = constraints::new(e, n, m, left, coefficients, range, q, null);
     let column = pivots.column;
     let rank = pivots.rank;
     let y = n * rank;
@@ -106,6 +147,9 @@ fn solve_scaled(
         n,
         m,
         noise,
+        q,
+        h,
+        vectors,
     )
 }
 
@@ -119,25 +163,46 @@ fn solve_by(
     m: usize,
     noise: f64,
     scale: f64,
+    ks: &mut [f64],
+    es: &mut [f64],
+    left: &mut [f64],
+    coefficients: &mut [f64],
+    range: &mut [f64],
+    q: &mut [f64],
+    null: &mut [f64],
+    h: &mut [f64],
+    vectors: &mut [f64],
 ) -> Solution
-    requires { ⌜ (n ≤ 32) × (m ≤ 24) × (n * n ≤ 1024) × (n * m ≤ 768) × (n * n ≤ length (now k)) × (n ≤ length (now c)) × (n * m ≤ length (now e)) × (m ≤ length (now b)) ⌝ }
-    ensures { λ r. ⌜ solutionOf n m r ≡ Definition.solveBy n m (now (k .entry)) (now (c .entry)) (now (e .entry)) (now (b .entry)) noise scale ⌝ }
+    requires { ⌜ Sized n m (now k) (now c) (now e) (now b)
+        × (n * n ≤ length (now ks))
+        × (n * m ≤ length (now es))
+        × Tall n m (now left) (now coefficients) (now range)
+        × Squares n (now q) (now null) (now h) (now vectors) ⌝ }
+    ensures { λ r. ⌜ solutionOf n m r
+        ≡ Definition.solveBy (system n m (now (k .entry)) (now (c .entry)) (now (e .entry)) (now (b .entry))) noise scale ⌝ }
 {
     let columns = scaled::column_scales(e, n, m);
     let square = n * n;
     let entries = n * m;
-    let k = dense::divided_matrix(k, n, n, scale);
-    let e = scaled::scaled_e(e, n, m, &columns[..m]);
+    vector::divided(k, square, scale, ks);
+    scaled::scaled_e(e, n, m, &columns[..m], es);
     let c = dense::divided(c, n, scale);
     let b = dense::div(b, &columns[..m], m);
     let s = solve_scaled(
-        &k[..square],
+        &ks[..square],
         &c[..n],
-        &e[..entries],
+        &es[..entries],
         &b[..m],
         n,
         m,
         noise / scale,
+        left,
+        coefficients,
+        range,
+        q,
+        null,
+        h,
+        vectors,
     );
     let verdict = s.verdict;
     let x = s.x;
@@ -146,7 +211,7 @@ fn solve_by(
 }
 
 fn finite(k: &[f64], c: &[f64], n: usize) -> bool
-    requires { ⌜ (n * n ≤ 1024) × (n * n ≤ length (now k)) × (n ≤ length (now c)) ⌝ }
+    requires { ⌜ (n ≤ Sizes.originals) × (n * n ≤ length (now k)) × (n ≤ length (now c)) ⌝ }
     ensures { λ r. ⌜ r ≡ Definition.finite n (now (k .entry)) (now (c .entry)) ⌝ }
 {
     if vector::all_finite(k, n * n) {
@@ -163,13 +228,45 @@ pub fn solve_noisy_kkt(
     n: usize,
     m: usize,
     noise: f64,
+    ks: &mut [f64],
+    es: &mut [f64],
+    left: &mut [f64],
+    coefficients: &mut [f64],
+    range: &mut [f64],
+    q: &mut [f64],
+    null: &mut [f64],
+    h: &mut [f64],
+    vectors: &mut [f64],
 ) -> Solution
-    requires { ⌜ (n ≤ 32) × (m ≤ 24) × (n * n ≤ length (now k)) × (n ≤ length (now c)) × (n * m ≤ length (now e)) × (m ≤ length (now b)) ⌝ }
-    ensures { λ r. ⌜ solutionOf n m r ≡ Definition.solveNoisyKkt n m (now (k .entry)) (now (c .entry)) (now (e .entry)) (now (b .entry)) noise ⌝ }
+    requires { ⌜ Sized n m (now k) (now c) (now e) (now b)
+        × (n * n ≤ length (now ks))
+        × (n * m ≤ length (now es))
+        × Tall n m (now left) (now coefficients) (now range)
+        × Squares n (now q) (now null) (now h) (now vectors) ⌝ }
+    ensures { λ r. ⌜ solutionOf n m r
+        ≡ Definition.solveNoisyKkt (system n m (now (k .entry)) (now (c .entry)) (now (e .entry)) (now (b .entry))) noise ⌝ }
 {
     if finite(k, c, n) {
         return match scaled::k_scale(k, n) {
-            Scale::By(scale) => solve_by(k, c, e, b, n, m, noise, scale),
+            Scale::By(scale) => solve_by(
+                k,
+                c,
+                e,
+                b,
+                n,
+                m,
+                noise,
+                scale,
+                ks,
+                es,
+                left,
+                coefficients,
+                range,
+                q,
+                null,
+                h,
+                vectors,
+            ),
             Scale::Refused => solution::refused(Verdict::SingularCovariance),
         };
     }

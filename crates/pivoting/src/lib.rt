@@ -1,15 +1,17 @@
 // qp.rs: the first half of `Constraints::new`, of E with n rows and m columns, up to 32 and 24; p is min(n, m). Of the basis Y, n by p, the
 // first `rank` columns count, and of T, p by m, the first `rank` rows.
 ghost use mathlib.Core.Path.{_≡_};
-ghost use Prim.Native.Nat.{_≤_, _<_, _*_, min, max};
-ghost use lib.ListN.{length};
-ghost use Rattle.folds.specs.Fold.{out};
+ghost use Prim.Native.Nat.{_≤_, _<_, _+_, _*_, min, max};
+ghost use mathlib.Core.Bool.{true, false};
+ghost use mathlib.Core.List.{[], _∷_, _++_};
+ghost use lib.ListN.{length, set, take, replicate};
+ghost use Rattle.folds.specs.Fold.{out, pick};
 ghost use Rattle.folds.specs.Part.{two};
-ghost use Rattle.arith.specs.Float.{f0, at};
-ghost use Rattle.vector.specs.Vector.{filled};
+ghost use Rattle.sizes.specs.Sizes as Sizes;
+ghost use Rattle.arith.specs.Float.{at};
 ghost use Rattle.matrix.specs.Matrix.{putColumn};
 ghost use Rattle.pivoting.specs.Pivoting as Pivoting;
-ghost use Rattle.pivoting.specs.Pivoting.{pivoting, Taken};
+ghost use Rattle.pivoting.specs.Pivoting.{stateOf, Taken};
 
 // The remaining column of the largest norm, as `max_by` has it.
 pub enum Largest {
@@ -17,10 +19,10 @@ pub enum Largest {
     Nothing,
 }
 
-// The column of E each basis vector was built from, in order, and which columns remain.
+// The column of E each of the `rank` basis vectors was built from, in order, and which columns remain.
 pub struct Pivots {
-    pub column: [usize; 24],
-    pub remaining: [bool; 24],
+    pub column: [usize; sizes::COLUMNS],
+    pub remaining: [bool; sizes::COLUMNS],
     pub rank: usize,
 }
 
@@ -124,7 +126,8 @@ fn remove_part(
     l: usize,
 )
     requires { ⌜ (n * m ≤ length (now left)) × (p * m ≤ length (now coefficients)) × (row < p) × (n ≤ length (now y)) × (l < m) ⌝ }
-    ensures { λ _. ⌜ two (now (left .exit)) (now (coefficients .exit)) ≡ Pivoting.removePart n p row (now (y .entry)) l (two (now (left .entry)) (now (coefficients .entry))) ⌝ }
+    ensures { λ _. ⌜ two (now (left .exit)) (now (coefficients .exit))
+        ≡ Pivoting.removePart n p row (now (y .entry)) l (two (now (left .entry)) (now (coefficients .entry))) ⌝ }
 {
     let t = vector::dot(y, matrix::column(&left[..], n, m, l), n);
     let c = matrix::get(&coefficients[..], p, m, row, l) + t;
@@ -144,8 +147,14 @@ fn remove_one(
     remaining: &[bool],
     l: usize,
 )
-    requires { ⌜ (n * m ≤ length (now left)) × (p * m ≤ length (now coefficients)) × (row < p) × (n ≤ length (now y)) × (m ≤ length (now remaining)) × (l < m) ⌝ }
-    ensures { λ _. ⌜ two (now (left .exit)) (now (coefficients .exit)) ≡ Pivoting.removeOne n p row (now (y .entry)) (now (remaining .entry)) l (two (now (left .entry)) (now (coefficients .entry))) ⌝ }
+    requires { ⌜ (n * m ≤ length (now left))
+        × (p * m ≤ length (now coefficients))
+        × (row < p)
+        × (n ≤ length (now y))
+        × (m ≤ length (now remaining))
+        × (l < m) ⌝ }
+    ensures { λ _. ⌜ two (now (left .exit)) (now (coefficients .exit))
+        ≡ Pivoting.removeOne n p row (now (y .entry)) (now (remaining .entry)) l (two (now (left .entry)) (now (coefficients .entry))) ⌝ }
 {
     if remaining[l] {
         remove_part(left, coefficients, n, m, p, row, y, l);
@@ -163,8 +172,13 @@ fn remove_all(
     y: &[f64],
     remaining: &[bool],
 )
-    requires { ⌜ (n * m ≤ length (now left)) × (p * m ≤ length (now coefficients)) × (row < p) × (n ≤ length (now y)) × (m ≤ length (now remaining)) ⌝ }
-    ensures { λ _. ⌜ two (now (left .exit)) (now (coefficients .exit)) ≡ Pivoting.removeAll n m p row (now (y .entry)) (now (remaining .entry)) (two (now (left .entry)) (now (coefficients .entry))) ⌝ }
+    requires { ⌜ (n * m ≤ length (now left))
+        × (p * m ≤ length (now coefficients))
+        × (row < p)
+        × (n ≤ length (now y))
+        × (m ≤ length (now remaining)) ⌝ }
+    ensures { λ _. ⌜ two (now (left .exit)) (now (coefficients .exit))
+        ≡ Pivoting.removeAll n m p row (now (y .entry)) (now (remaining .entry)) (two (now (left .entry)) (now (coefficients .entry))) ⌝ }
 {
     for l in 0..m {
         remove_one(left, coefficients, n, m, p, row, y, remaining, l);
@@ -192,17 +206,26 @@ fn with_basis(
     y: &[f64],
     remaining: &[bool],
 )
-    requires { ⌜ (n * m ≤ length (now left)) × (p * m ≤ length (now coefficients)) × (n * p ≤ length (now basis)) × (row < p) × (n ≤ length (now y)) × (m ≤ length (now remaining)) ⌝ }
-    ensures { λ _. ⌜ two (now (left .exit)) (now (coefficients .exit)) ≡ Pivoting.removeAll n m p row (now (y .entry)) (now (remaining .entry)) (two (now (left .entry)) (now (coefficients .entry))) ⌝ }
+    requires { ⌜ (n * m ≤ length (now left))
+        × (p * m ≤ length (now coefficients))
+        × (n * p ≤ length (now basis))
+        × (row < p)
+        × (n ≤ length (now y))
+        × (m ≤ length (now remaining)) ⌝ }
+    ensures { λ _. ⌜ two (now (left .exit)) (now (coefficients .exit))
+        ≡ Pivoting.removeAll n m p row (now (y .entry)) (now (remaining .entry)) (two (now (left .entry)) (now (coefficients .entry))) ⌝ }
     ensures { λ _. ⌜ now (basis .exit) ≡ putColumn n n row (at (now (y .entry))) (now (basis .entry)) ⌝ }
 {
     remove_all(left, coefficients, n, m, p, row, y, remaining);
     put_column(basis, n, p, row, y);
 }
 
-fn with_pivot(row: usize, j: usize, pivots: Pivots) -> Pivots
-    requires { ⌜ (row < 24) × (j < 24) ⌝ }
-    ensures { λ r. ⌜ r ≡ Pivoting.withPivot row j pivots ⌝ }
+// `remaining.remove(position)`, `pivots.push(j)`
+fn with_pivot(row: usize, m: usize, j: usize, pivots: Pivots) -> Pivots
+    requires { ⌜ (row < Sizes.columns) × (j < m) × (m ≤ Sizes.columns) ⌝ }
+    ensures { λ r. ⌜ (r .rank ≡ row + 1)
+        × (take (row + 1) (r .column) ≡ take row (pivots .column) ++ (j ∷ []))
+        × (take m (r .remaining) ≡ set (take m (pivots .remaining)) j false) ⌝ }
 {
     let mut next = pivots;
     next.remaining[j] = false;
@@ -224,14 +247,34 @@ fn taken(
     norm: f64,
     pivots: Pivots,
 ) -> Pivots
-    requires { ⌜ (n * m ≤ length (now left)) × (p * m ≤ length (now coefficients)) × (n * p ≤ length (now basis)) × (row < p) × (j < m) × (n ≤ 48) × (m ≤ 24) × (p ≤ 24) ⌝ }
-    ensures { λ r. ⌜ pivoting (now (left .exit)) (now (coefficients .exit)) (now (basis .exit)) r ≡ Pivoting.taken n m p row j norm (pivoting (now (left .entry)) (now (coefficients .entry)) (now (basis .entry)) pivots) ⌝ }
+    requires { ⌜ (n * m ≤ length (now left))
+        × (p * m ≤ length (now coefficients))
+        × (n * p ≤ length (now basis))
+        × (row < p)
+        × (j < m)
+        × (n ≤ Sizes.variables)
+        × (m ≤ Sizes.columns)
+        × (p ≤ m)
+        × (pivots .rank ≡ row) ⌝ }
+    ensures { λ r. ⌜ stateOf m (now (left .exit)) (now (coefficients .exit)) (now (basis .exit)) r
+        ≡ Pivoting.taken n m p row j norm (stateOf m (now (left .entry)) (now (coefficients .entry)) (now (basis .entry)) pivots) ⌝ }
+    ensures { λ r. ⌜ r .rank ≡ row + 1 ⌝ }
 {
     let y = dense::divided(matrix::column(&left[..], n, m, j), n, norm);
-    let next = with_pivot(row, j, pivots);
+    let next = with_pivot(row, m, j, pivots);
     let remaining = next.remaining;
     matrix::put(coefficients, p, m, row, j, norm);
-    with_basis(left, coefficients, basis, n, m, p, row, &y[..n], &remaining);
+    with_basis(
+        left,
+        coefficients,
+        basis,
+        n,
+        m,
+        p,
+        row,
+        &y[..n],
+        &remaining[..m],
+    );
     next
 }
 
@@ -252,11 +295,20 @@ fn pivot_step(
     tolerance: f64,
     pivots: Pivots,
 ) -> Turn
-    requires { ⌜ (n * m ≤ length (now left)) × (p * m ≤ length (now coefficients)) × (n * p ≤ length (now basis)) × (row < p) × (n ≤ 48) × (m ≤ 24) × (p ≤ 24) ⌝ }
-    ensures { λ r. ⌜ out (r .more) (pivoting (now (left .exit)) (now (coefficients .exit)) (now (basis .exit)) (r .pivots)) ≡ Pivoting.pivotStep n m p tolerance row (pivoting (now (left .entry)) (now (coefficients .entry)) (now (basis .entry)) pivots) ⌝ }
+    requires { ⌜ (n * m ≤ length (now left))
+        × (p * m ≤ length (now coefficients))
+        × (n * p ≤ length (now basis))
+        × (row < p)
+        × (n ≤ Sizes.variables)
+        × (m ≤ Sizes.columns)
+        × (p ≤ m)
+        × (pivots .rank ≡ row) ⌝ }
+    ensures { λ r. ⌜ out (r .more) (stateOf m (now (left .exit)) (now (coefficients .exit)) (now (basis .exit)) (r .pivots))
+        ≡ Pivoting.pivotStep n m p tolerance row (stateOf m (now (left .entry)) (now (coefficients .entry)) (now (basis .entry)) pivots) ⌝ }
+    ensures { λ r. ⌜ r .pivots .rank ≡ pick (r .more) (row + 1) row ⌝ }
 {
     let remaining = pivots.remaining;
-    let best = largest_column(&left[..], n, m, &remaining);
+    let best = largest_column(&left[..], n, m, &remaining[..m]);
     let Largest::Found(j, norm) = best else {
         return Turn {
             more: false,
@@ -287,8 +339,16 @@ fn pivoted(
     tolerance: f64,
     start: Pivots,
 ) -> Pivots
-    requires { ⌜ (n * m ≤ length (now left)) × (p * m ≤ length (now coefficients)) × (n * p ≤ length (now basis)) × (n ≤ 48) × (m ≤ 24) × (p ≤ 24) ⌝ }
-    ensures { λ r. ⌜ pivoting (now (left .exit)) (now (coefficients .exit)) (now (basis .exit)) r ≡ Pivoting.pivoted n m p tolerance (pivoting (now (left .entry)) (now (coefficients .entry)) (now (basis .entry)) start) ⌝ }
+    requires { ⌜ (n * m ≤ length (now left))
+        × (p * m ≤ length (now coefficients))
+        × (n * p ≤ length (now basis))
+        × (n ≤ Sizes.variables)
+        × (m ≤ Sizes.columns)
+        × (p ≤ m)
+        × (start .rank ≡ 0) ⌝ }
+    ensures { λ r. ⌜ stateOf m (now (left .exit)) (now (coefficients .exit)) (now (basis .exit)) r
+        ≡ Pivoting.pivoted n m p tolerance (stateOf m (now (left .entry)) (now (coefficients .entry)) (now (basis .entry)) start) ⌝ }
+    ensures { λ r. ⌜ r .rank ≤ p ⌝ }
 {
     let mut pivots = start;
     for row in 0..p {
@@ -302,16 +362,16 @@ fn pivoted(
 }
 
 fn no_pivots() -> Pivots
-    ensures { λ r. ⌜ r ≡ Pivoting.noPivots ⌝ }
+    ensures { λ r. ⌜ r ≡ record { column = replicate Sizes.columns 0; remaining = replicate Sizes.columns true; rank = 0 } ⌝ }
 {
     Pivots {
-        column: [0; 24],
-        remaining: [true; 24],
+        column: [0; sizes::COLUMNS],
+        remaining: [true; sizes::COLUMNS],
         rank: 0,
     }
 }
 
-// E = YT. T and Y start as zeros.
+// E = YT: what is left of E, T and Y fill the three slices.
 pub fn factored(
     e: &[f64],
     n: usize,
@@ -321,11 +381,20 @@ pub fn factored(
     coefficients: &mut [f64],
     basis: &mut [f64],
 ) -> Pivots
-    requires { ⌜ (n * m ≤ length (now e)) × (length (now left) ≡ n * m) × (now coefficients ≡ filled (p * m) f0) × (now basis ≡ filled (n * p) f0) × (p ≤ m) × (n ≤ 48) × (m ≤ 24) ⌝ }
-    ensures { λ r. ⌜ pivoting (now (left .exit)) (now (coefficients .exit)) (now (basis .exit)) r ≡ Pivoting.factored n m p (now (e .entry)) ⌝ }
+    requires { ⌜ (n * m ≤ length (now e))
+        × (length (now left) ≡ n * m)
+        × (length (now coefficients) ≡ p * m)
+        × (length (now basis) ≡ n * p)
+        × (n ≤ Sizes.variables)
+        × (m ≤ Sizes.columns)
+        × (p ≤ m) ⌝ }
+    ensures { λ r. ⌜ stateOf m (now (left .exit)) (now (coefficients .exit)) (now (basis .exit)) r
+        ≡ Pivoting.factored n m p (now (e .entry)) ⌝ }
     ensures { λ r. ⌜ Taken p m r ⌝ }
 {
     vector::copy(e, n * m, left);
+    vector::fill(coefficients, p * m, 0.0);
+    vector::fill(basis, n * p, 0.0);
     pivoted(
         left,
         coefficients,

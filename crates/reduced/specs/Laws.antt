@@ -1,38 +1,35 @@
--- Laws of the definitions: what a function's calls leave, put together.
-use mathlib.Core.Path.{_≡_, refl, sym, ap, _∙_}
+-- Laws of the definitions: what a decomposition that was found gives, and one that was not.
+use mathlib.Core.Path.{_≡_, sym, _∙_}
 use mathlib.Core.Bool.{Bool, true, false}
 use mathlib.Core.List.{List}
 use Prim.Native.Nat.{ℕ, _*_}
-use lib.ListN.{length}
+use lib.ListN.{take}
 use lib.Ieee.{Float}
-use Rattle.folds.specs.Fold.{pick, over, Out, out}
-use Rattle.folds.specs.Tab.{over-all}
-use Rattle.folds.specs.Part.{Two, two}
-use Rattle.eigen.specs.Eigen.{Eigen, eigen, nothing, symmetricEigen, written}
-use Rattle.eigen.specs.Laws.{Fills, fills}
-use Rattle.reduced.specs.Reduced.{projected, reduced, none, cutoff, withCutoff, reducedHessian}
+use Rattle.folds.specs.Fold.{pick}
+use Rattle.eigen.specs.Eigen.{given, symmetricEigen}
+use Rattle.eigen.specs.Laws.{given-eigen, given-nothing}
+use Rattle.reduced.specs.declared.Hessian.{Hessian}
+use Rattle.reduced.specs.Reduced.{projected, reduced, none, cutoff, withCutoff, reducedHessian, hessianOf}
 
-abbrev given : Out (Two (List Float) (List Float)) → Bool
-given (out r s) = r
+module _ (d : ℕ) (h : Hessian) (vectors : List Float) where
+  pub hessian-found : h .found ≡ true → hessianOf d h vectors ≡ reduced (take d (h .values)) (take (d * d) vectors) (h .cutoff)
+  unfolding hessianOf pick
+  hessian-found e = rw e
 
-abbrev first : Out (Two (List Float) (List Float)) → List Float
-first (out r (two l v)) = l
+  pub hessian-none : h .found ≡ false → hessianOf d h vectors ≡ none
+  unfolding hessianOf pick
+  hessian-none e = rw e
 
-abbrev second : Out (Two (List Float) (List Float)) → List Float
-second (out r (two l v)) = v
-
-cut : {found : Bool} {l v : List Float} {c : Float} (n d : ℕ) (k o p : List Float) (s : Eigen) → Fills d s → length o ≡ d → length p ≡ d * d →
-    out found (two l v) ≡ written s o p → c ≡ cutoff n d k l → pick found (reduced l v c) none ≡ withCutoff n d k s
+-- the cutoff belongs to the values that were found
+with-cutoff : (found : Bool) (n d : ℕ) (k l v : List Float) →
+    pick found (reduced l v (cutoff n d k l)) none ≡ withCutoff n d k (given found l v)
 unfolding pick withCutoff
-cut n d k o p (eigen values vectors) f g h e i =
-    let a = ap first e ∙ over-all values o (f .0 ∙ sym g) in
-    let b = ap second e ∙ over-all vectors p (f .1 ∙ sym h) in
-    rw (ap given e, i, a, b)
-cut n d k o p nothing f g h e i = rw (ap given e)
+with-cutoff true n d k l v = rw given-eigen
+with-cutoff false n d k l v = rw given-nothing
 
-pub hessian-from : {found : Bool} {l v l' v' h : List Float} {c : Float} (n d : ℕ) (k z o p : List Float) →
-    h ≡ projected n d k z → length o ≡ d → length p ≡ d * d → out found (two l' v') ≡ written (symmetricEigen d h) o p → l ≡ l' → v ≡ v' → c ≡ cutoff n d k l →
-    pick found (reduced l v c) none ≡ reducedHessian n d k z
-unfolding reducedHessian
-hessian-from n d k z o p a g h e i j m =
-    rw (i, j) (cut n d k o p (symmetricEigen d (projected n d k z)) (fills d (projected n d k z)) g h (e ∙ rw a) (m ∙ rw i))
+-- what the calls give, put together
+pub hessian-from : {h : List Float} (n d : ℕ) (k z l v : List Float) (r : Hessian) (vectors : List Float) →
+    h ≡ projected n d k z → given (r .found) l v ≡ symmetricEigen d h → take d (r .values) ≡ l → take (d * d) vectors ≡ v →
+    r .cutoff ≡ cutoff n d k l → hessianOf d r vectors ≡ reducedHessian n d k z
+unfolding hessianOf reducedHessian
+hessian-from n d k z l v r vectors a e f g i = rw (f, g, i) (with-cutoff (r .found) n d k l v ∙ rw (e, a))

@@ -1,14 +1,14 @@
 -- qp.rs, `solve_noisy_kkt`: its steps in the null space of Eᵀ. K is n by n, Z is n by d; c and x have n elements, v and the gradient d.
 use Prim.Native.Nat.{ℕ, _+_, _*_}
 use mathlib.Core.List.{List}
-use lib.ListN.{take}
-use lib.Ieee.{Float, lt}
+use lib.ListN.{length, take}
+use lib.Ieee.{Float}
 use Rattle.folds.specs.Fold.{fold, pick}
 use Rattle.arith.specs.Float.{fmul, fdiv, f0, epsilon, fromℕ, at}
 use Rattle.arith.specs.Scalar.{max}
 use Rattle.vector.specs.Vector.{dot, amax, add, sub, addScaled, filled}
-use Rattle.matrix.specs.Matrix.{column, mul, trMul, mulVec, trMulVec}
-use Rattle.eigen.specs.Eigen.{Eigen, eigen, nothing, symmetricEigen}
+use Rattle.matrix.specs.Matrix.{column, index, mul, trMul, mulVec, trMulVec}
+use Rattle.eigen.specs.Eigen.{Eigen, eigen, nothing, symmetricEigen, range}
 use Rattle.reduced.specs.declared.Hessian.{Hessian}
 
 -- `&c - k * &x`
@@ -40,21 +40,22 @@ withCutoff n d k nothing = none
 unfoldable pub reducedHessian : ℕ → ℕ → List Float → List Float → Reduced
 reducedHessian n d k z = withCutoff n d k (symmetricEigen d (projected n d k z))
 
--- what counts of its fields
-unfoldable pub hessianOf : ℕ → Hessian → Reduced
-hessianOf d h = pick (h .found) (reduced (take d (h .values)) (take (d * d) (h .vectors)) (h .cutoff)) none
+-- what counts of what the code leaves
+unfoldable pub hessianOf : (d : ℕ) → Hessian → (vectors : List Float) → Reduced
+hessianOf d h vectors = pick (h .found) (reduced (take d (h .values)) (take (d * d) vectors) (h .cutoff)) none
 
 -- ---- the step in the range of the reduced Hessian
--- `v + w * (w.dot(&gradient) / value)`, for the eigenvalues above the cutoff and their eigenvectors
-unfoldable pub rangeOne : ℕ → List Float → List Float → Float → List Float → ℕ → List Float → List Float
-rangeOne d values vectors cutoff gradient j v =
-    pick (lt cutoff (at values j)) (addScaled d v (column d vectors j) (fdiv (dot d (column d vectors j) gradient) (at values j))) v
+-- `v + w * (w.dot(&gradient) / value)`
+unfoldable pub rangeOne : (d : ℕ) (values vectors gradient : List Float) (j : ℕ) (v : List Float) → List Float
+rangeOne d values vectors gradient j v =
+    addScaled d v (column d vectors j) (fdiv (dot d (column d vectors j) gradient) (at values j))
 
-unfoldable pub writeRange : ℕ → List Float → List Float → Float → List Float → List Float → List Float
-writeRange d values vectors cutoff gradient v = fold d (rangeOne d values vectors cutoff gradient) v
+unfoldable pub rangeEach : (d : ℕ) (values vectors gradient : List Float) (range : List ℕ) (v : List Float) → List Float
+rangeEach d values vectors gradient range v = fold (length range) (λ i. rangeOne d values vectors gradient (index range i)) v
 
-unfoldable pub rangePart : ℕ → List Float → List Float → Float → List Float → List Float
-rangePart d values vectors cutoff gradient = writeRange d values vectors cutoff gradient (filled d f0)
+-- `let (range, _) = eigen.split(cutoff)`, then a fold over it from zeros
+unfoldable pub rangePart : (d : ℕ) (values vectors : List Float) (cutoff : Float) (gradient : List Float) → List Float
+rangePart d values vectors cutoff gradient = rangeEach d values vectors gradient (range d values cutoff) (filled d f0)
 
 -- `x0 + z * v`
 unfoldable pub moved : ℕ → ℕ → List Float → List Float → List Float → List Float

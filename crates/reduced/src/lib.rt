@@ -2,19 +2,20 @@
 ghost use mathlib.Core.Path.{_≡_};
 ghost use Prim.Native.Nat.{_≤_, _<_, _*_};
 ghost use lib.ListN.{length, take};
+ghost use Rattle.sizes.specs.Sizes as Sizes;
+ghost use Rattle.vector.specs.Vector.{Below};
 ghost use Rattle.reduced.specs.Reduced as Definition;
 
-// The eigenvalues and eigenvectors of ZᵀKZ, where they were found, and the cutoff.
+// Whether the eigenvalues and eigenvectors of ZᵀKZ were found, the values, and the cutoff.
 pub struct Hessian {
     pub found: bool,
-    pub values: [f64; 32],
-    pub vectors: [f64; 1024],
+    pub values: [f64; sizes::VARIABLES],
     pub cutoff: f64,
 }
 
 // c − Kx
-pub fn gradient(k: &[f64], c: &[f64], x: &[f64], n: usize) -> [f64; 48]
-    requires { ⌜ (n ≤ 32) × (n * n ≤ length (now k)) × (n ≤ length (now c)) × (n ≤ length (now x)) ⌝ }
+pub fn gradient(k: &[f64], c: &[f64], x: &[f64], n: usize) -> [f64; sizes::VARIABLES]
+    requires { ⌜ (n ≤ Sizes.originals) × (n * n ≤ length (now k)) × (n ≤ length (now c)) × (n ≤ length (now x)) ⌝ }
     ensures { λ r. ⌜ take n r ≡ Definition.gradient n (now (k .entry)) (now (c .entry)) (now (x .entry)) ⌝ }
 {
     let kx = dense::mul_vec(k, n, n, x);
@@ -22,106 +23,148 @@ pub fn gradient(k: &[f64], c: &[f64], x: &[f64], n: usize) -> [f64; 48]
 }
 
 // Zᵀ(c − Kx)
-pub fn reduced_gradient(k: &[f64], c: &[f64], z: &[f64], x: &[f64], n: usize, d: usize) -> [f64; 48]
-    requires { ⌜ (n ≤ 32) × (d ≤ n) × (n * n ≤ length (now k)) × (n ≤ length (now c)) × (n * d ≤ length (now z)) × (n ≤ length (now x)) ⌝ }
+pub fn reduced_gradient(
+    k: &[f64],
+    c: &[f64],
+    z: &[f64],
+    x: &[f64],
+    n: usize,
+    d: usize,
+) -> [f64; sizes::VARIABLES]
+    requires { ⌜ (n ≤ Sizes.originals)
+        × (d ≤ n)
+        × (n * n ≤ length (now k))
+        × (n ≤ length (now c))
+        × (n * d ≤ length (now z))
+        × (n ≤ length (now x)) ⌝ }
     ensures { λ r. ⌜ take d r ≡ Definition.reducedGradient n d (now (k .entry)) (now (c .entry)) (now (z .entry)) (now (x .entry)) ⌝ }
 {
     let g = gradient(k, c, x, n);
     dense::tr_mul_vec(z, n, d, &g[..n])
 }
 
-// ZᵀKZ
-pub fn projected(k: &[f64], z: &[f64], n: usize, d: usize) -> [f64; 1024]
-    requires { ⌜ (d * n ≤ 1024) × (d * d ≤ 1024) × (n * n ≤ length (now k)) × (n * d ≤ length (now z)) ⌝ }
-    ensures { λ r. ⌜ take (d * d) r ≡ Definition.projected n d (now (k .entry)) (now (z .entry)) ⌝ }
+// ZᵀKZ over the start of h; ZᵀK stands in `room`.
+fn projected(k: &[f64], z: &[f64], n: usize, d: usize, room: &mut [f64], h: &mut [f64])
+    requires { ⌜ (n ≤ Sizes.originals)
+        × (d ≤ n)
+        × (n * n ≤ length (now k))
+        × (n * d ≤ length (now z))
+        × (n * n ≤ length (now room))
+        × (n * n ≤ length (now h)) ⌝ }
+    ensures { λ _. ⌜ take (d * d) (now (h .exit)) ≡ Definition.projected n d (now (k .entry)) (now (z .entry)) ⌝ }
 {
-    let zk = dense::tr_mul(z, n, d, k, n);
     let entries = d * n;
-    dense::mul(&zk[..entries], d, n, z, d)
+    matrix::tr_mul(z, n, d, k, n, room);
+    matrix::mul(&room[..entries], d, n, z, d, h);
 }
 
 // Below this an eigenvalue of ZᵀKZ counts as zero: relative to K as well, so that a reduced Hessian that is all rounding error is zero.
 fn cutoff(values: &[f64], k: &[f64], n: usize, d: usize) -> f64
-    requires { ⌜ (n ≤ 32) × (n * n ≤ 1024) × (n * n ≤ length (now k)) × (d ≤ length (now values)) ⌝ }
+    requires { ⌜ (n ≤ Sizes.originals) × (n * n ≤ length (now k)) × (d ≤ length (now values)) ⌝ }
     ensures { λ r. ⌜ r ≡ Definition.cutoff n d (now (k .entry)) (now (values .entry)) ⌝ }
 {
     let largest = arith::max(vector::amax(values, d), vector::amax(k, n * n));
     largest * arith::from_usize(n + 1) * arith::EPSILON
 }
 
-pub fn reduced_hessian(k: &[f64], z: &[f64], n: usize, d: usize) -> Hessian
-    requires { ⌜ (n ≤ 32) × (d ≤ n) × (n * n ≤ 1024) × (d * n ≤ 1024) × (d * d ≤ 1024) × (n * n ≤ length (now k)) × (n * d ≤ length (now z)) ⌝ }
-    ensures { λ r. ⌜ Definition.hessianOf d r ≡ Definition.reducedHessian n d (now (k .entry)) (now (z .entry)) ⌝ }
+// The eigenvectors stand over the start of `vectors`; `room` and h are work memory.
+pub fn reduced_hessian(
+    k: &[f64],
+    z: &[f64],
+    n: usize,
+    d: usize,
+    room: &mut [f64],
+    h: &mut [f64],
+    vectors: &mut [f64],
+) -> Hessian
+    requires { ⌜ (n ≤ Sizes.originals)
+        × (d ≤ n)
+        × (n * n ≤ length (now k))
+        × (n * d ≤ length (now z))
+        × (n * n ≤ length (now room))
+        × (n * n ≤ length (now h))
+        × (n * n ≤ length (now vectors)) ⌝ }
+    ensures { λ r. ⌜ Definition.hessianOf d r (now (vectors .exit)) ≡ Definition.reducedHessian n d (now (k .entry)) (now (z .entry)) ⌝ }
 {
-    let mut values = [0.0; 32];
-    let mut vectors = [0.0; 1024];
-    let h = projected(k, z, n, d);
+    let mut values = [0.0; sizes::VARIABLES];
     let square = d * d;
-    let found = eigen::symmetric_eigen(&h[..square], d, &mut values[..d], &mut vectors[..square]);
+    projected(k, z, n, d, room, h);
+    let found = eigen::symmetric_eigen(
+        &mut h[..square],
+        d,
+        &mut room[..square],
+        &mut values[..d],
+        &mut vectors[..square],
+    );
     let cutoff = cutoff(&values[..d], k, n, d);
     Hessian {
         found: found,
         values: values,
-        vectors: vectors,
         cutoff: cutoff,
     }
 }
 
-// An eigenvector w's part of the step, if its eigenvalue is above the cutoff: w (w·gradient / value).
-fn range_one(
+// v + w (w·gradient / value), for the eigenvector w of number j.
+fn range_one(values: &[f64], vectors: &[f64], d: usize, gradient: &[f64], j: usize, v: &mut [f64])
+    requires { ⌜ (d ≤ length (now values))
+        × (d * d ≤ length (now vectors))
+        × (d ≤ length (now gradient))
+        × (j < d)
+        × (length (now v) ≡ d) ⌝ }
+    ensures { λ _. ⌜ now (v .exit)
+        ≡ Definition.rangeOne d (now (values .entry)) (now (vectors .entry)) (now (gradient .entry)) j (now (v .entry)) ⌝ }
+{
+    let w = matrix::column(vectors, d, d, j);
+    vector::add_scaled(v, d, w, vector::dot(w, gradient, d) / values[j]);
+}
+
+// The same for each eigenvector that `range` numbers.
+fn range_each(
     values: &[f64],
     vectors: &[f64],
     d: usize,
-    cutoff: f64,
     gradient: &[f64],
-    j: usize,
+    range: &[usize],
     v: &mut [f64],
 )
-    requires { ⌜ (d ≤ length (now values)) × (d * d ≤ length (now vectors)) × (d ≤ length (now gradient)) × (j < d) × (length (now v) ≡ d) ⌝ }
-    ensures { λ _. ⌜ now (v .exit) ≡ Definition.rangeOne d (now (values .entry)) (now (vectors .entry)) cutoff (now (gradient .entry)) j (now (v .entry)) ⌝ }
+    requires { ⌜ (d ≤ length (now values))
+        × (d * d ≤ length (now vectors))
+        × (d ≤ length (now gradient))
+        × Below (length (now range)) (now range) d
+        × (length (now v) ≡ d) ⌝ }
+    ensures { λ _. ⌜ now (v .exit)
+        ≡ Definition.rangeEach d (now (values .entry)) (now (vectors .entry)) (now (gradient .entry)) (now (range .entry)) (now (v .entry)) ⌝ }
 {
-    let value = values[j];
-    if value > cutoff {
-        let w = matrix::column(vectors, d, d, j);
-        vector::add_scaled(v, d, w, vector::dot(w, gradient, d) / value);
+    for i in 0..range.len() {
+        range_one(values, vectors, d, gradient, range[i], v);
     }
 }
 
-fn write_range(
-    values: &[f64],
-    vectors: &[f64],
-    d: usize,
-    cutoff: f64,
-    gradient: &[f64],
-    v: &mut [f64],
-)
-    requires { ⌜ (d ≤ length (now values)) × (d * d ≤ length (now vectors)) × (d ≤ length (now gradient)) × (length (now v) ≡ d) ⌝ }
-    ensures { λ _. ⌜ now (v .exit) ≡ Definition.writeRange d (now (values .entry)) (now (vectors .entry)) cutoff (now (gradient .entry)) (now (v .entry)) ⌝ }
-{
-    for j in 0..d {
-        range_one(values, vectors, d, cutoff, gradient, j, v);
-    }
-}
-
-// The step in the range of the reduced Hessian.
+// The step in the range of the reduced Hessian: over the eigenvalues above the cutoff.
 pub fn range_part(
     values: &[f64],
     vectors: &[f64],
     d: usize,
     cutoff: f64,
     gradient: &[f64],
-) -> [f64; 48]
-    requires { ⌜ (d ≤ 32) × (d ≤ length (now values)) × (d * d ≤ length (now vectors)) × (d ≤ length (now gradient)) ⌝ }
-    ensures { λ r. ⌜ take d r ≡ Definition.rangePart d (now (values .entry)) (now (vectors .entry)) cutoff (now (gradient .entry)) ⌝ }
+) -> [f64; sizes::VARIABLES]
+    requires { ⌜ (d ≤ Sizes.originals)
+        × (d ≤ length (now values))
+        × (d * d ≤ length (now vectors))
+        × (d ≤ length (now gradient)) ⌝ }
+    ensures { λ r. ⌜ take d r
+        ≡ Definition.rangePart d (now (values .entry)) (now (vectors .entry)) cutoff (now (gradient .entry)) ⌝ }
 {
-    let mut v = [0.0; 48];
-    write_range(values, vectors, d, cutoff, gradient, &mut v[..d]);
+    let mut range = [0; sizes::VARIABLES];
+    let mut v = [0.0; sizes::VARIABLES];
+    let count = eigen::range(values, d, cutoff, &mut range);
+    range_each(values, vectors, d, gradient, &range[..count], &mut v[..d]);
     v
 }
 
 // x0 + Zv
-pub fn moved(x0: &[f64], z: &[f64], v: &[f64], n: usize, d: usize) -> [f64; 48]
-    requires { ⌜ (n ≤ 32) × (n ≤ length (now x0)) × (n * d ≤ length (now z)) × (d ≤ length (now v)) ⌝ }
+pub fn moved(x0: &[f64], z: &[f64], v: &[f64], n: usize, d: usize) -> [f64; sizes::VARIABLES]
+    requires { ⌜ (n ≤ Sizes.originals) × (n ≤ length (now x0)) × (n * d ≤ length (now z)) × (d ≤ length (now v)) ⌝ }
     ensures { λ r. ⌜ take n r ≡ Definition.moved n d (now (x0 .entry)) (now (z .entry)) (now (v .entry)) ⌝ }
 {
     let zv = dense::mul_vec(z, n, d, v);

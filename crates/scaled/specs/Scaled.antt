@@ -2,11 +2,12 @@
 use Prim.Native.Nat.{ℕ, _*_}
 use mathlib.Core.List.{List}
 use lib.Ieee.{Float, binary64, lt, le, eq, ofBits}
-use Rattle.folds.specs.Fold.{tab, tabM, pick}
+use Rattle.folds.specs.Fold.{tab, pick}
 use Rattle.arith.specs.Float.{fadd, fmul, fdiv, f0, f1, fromℕ, at}
 use Rattle.arith.specs.Scalar.{isFinite}
-use Rattle.vector.specs.Vector.{amax, scaledNorm, add, sub}
-use Rattle.matrix.specs.Matrix.{cell, column, trace, mulVec, trMulVec}
+use Rattle.vector.specs.Vector.{scaledNorm, add, sub}
+use Rattle.matrix.specs.Matrix.{trace, mulVec, trMulVec, columnsAmax}
+use Rattle.scaled.specs.System.{System, system}
 use Rattle.scaled.specs.declared.Residual.{Residual}
 use Rattle.scaled.specs.declared.Rounding.{Rounding}
 use Rattle.scaled.specs.declared.Rounding.the-variants.{Overflowed, Outside, Within}
@@ -14,23 +15,24 @@ use Rattle.scaled.specs.declared.Scale.{Scale}
 use Rattle.scaled.specs.declared.Scale.the-variants.{By, Refused}
 
 -- ---- `kkt_residual`: how far x and λ are from solving Kx + Eλ = c, Eᵀx = b, and the size of the terms that is a difference of
-unfoldable pub stationarity : ℕ → ℕ → List Float → List Float → List Float → List Float → List Float → Float
+unfoldable pub stationarity : (n m : ℕ) (k c e x multipliers : List Float) → Float
 stationarity n m k c e x multipliers = scaledNorm n (sub n (add n (mulVec n n k x) (mulVec n m e multipliers)) c)
 
-unfoldable pub feasibility : ℕ → ℕ → List Float → List Float → List Float → Float
+unfoldable pub feasibility : (n m : ℕ) (e b x : List Float) → Float
 feasibility n m e b x = scaledNorm m (sub m (trMulVec n m e x) b)
 
 -- `norm(k) * x_norm + norm(e) * (x_norm + norm(multipliers)) + norm(c) + norm(b) + noise`
-unfoldable pub size : ℕ → ℕ → List Float → List Float → List Float → List Float → List Float → List Float → Float → Float
-size n m k c e b x multipliers noise =
+unfoldable pub size : System → (x multipliers : List Float) (noise : Float) → Float
+size (system n m k c e b) x multipliers noise =
     let xNorm = scaledNorm n x in
     let kTerms = fmul (scaledNorm (n * n) k) xNorm in
     let eTerms = fmul (scaledNorm (n * m) e) (fadd xNorm (scaledNorm m multipliers)) in
     fadd (fadd (fadd (fadd kTerms eTerms) (scaledNorm n c)) (scaledNorm m b)) noise
 
-unfoldable pub kktResidual : ℕ → ℕ → List Float → List Float → List Float → List Float → List Float → List Float → Float → Residual
-kktResidual n m k c e b x multipliers noise =
-    record { residual = fadd (stationarity n m k c e x multipliers) (feasibility n m e b x); size = size n m k c e b x multipliers noise }
+unfoldable pub kktResidual : System → (x multipliers : List Float) (noise : Float) → Residual
+kktResidual (system n m k c e b) x multipliers noise =
+    record
+    { residual = fadd (stationarity n m k c e x multipliers) (feasibility n m e b x); size = size (system n m k c e b) x multipliers noise }
 
 -- ---- `within_rounding`
 -- 1e-8
@@ -58,14 +60,9 @@ kScale n k =
 unfoldable pub above0Or1 : Float → Float
 above0Or1 s = pick (lt f0 s) s f1
 
-unfoldable pub columnScale : ℕ → List Float → ℕ → Float
-columnScale n e j = above0Or1 (amax n (column n e j))
+unfoldable pub above0Or1Each : ℕ → List Float → List Float
+above0Or1Each n l = tab n (λ i. above0Or1 (at l i))
 
+-- the largest entry of each column of E, or 1 where that's zero; each column of E over it is `columnsDivided`
 unfoldable pub columnScales : ℕ → ℕ → List Float → List Float
-columnScales n m e = tab m (columnScale n e)
-
-unfoldable pub scaledEntry : ℕ → List Float → Float → ℕ → ℕ → Float
-scaledEntry n e scale i j = fdiv (cell e n i j) scale
-
-unfoldable pub scaledE : ℕ → ℕ → List Float → List Float → List Float
-scaledE n m e columns = tabM n m (λ i j. scaledEntry n e (at columns j) i j)
+columnScales n m e = above0Or1Each m (columnsAmax n m e)

@@ -3,7 +3,9 @@ ghost use mathlib.Core.Path.{_≡_};
 ghost use Prim.Native.Nat.{_≤_, _<_, _*_};
 ghost use lib.ListN.{length, take};
 ghost use Rattle.folds.specs.Fold.{over};
-ghost use Rattle.matrix.specs.Matrix.{putColumn};
+ghost use Rattle.sizes.specs.Sizes as Sizes;
+ghost use Rattle.matrix.specs.Matrix.{columnsDivided};
+ghost use Rattle.scaled.specs.System.{Sized, system};
 ghost use Rattle.scaled.specs.Scaled as Definition;
 
 // How far x and the multipliers are from solving the system, and the size of the terms that is a difference of.
@@ -35,8 +37,14 @@ fn stationarity(
     n: usize,
     m: usize,
 ) -> f64
-    requires { ⌜ (n ≤ 32) × (n * n ≤ length (now k)) × (n ≤ length (now c)) × (n * m ≤ length (now e)) × (n ≤ length (now x)) × (m ≤ length (now multipliers)) ⌝ }
-    ensures { λ r. ⌜ r ≡ Definition.stationarity n m (now (k .entry)) (now (c .entry)) (now (e .entry)) (now (x .entry)) (now (multipliers .entry)) ⌝ }
+    requires { ⌜ (n ≤ Sizes.originals)
+        × (n * n ≤ length (now k))
+        × (n ≤ length (now c))
+        × (n * m ≤ length (now e))
+        × (n ≤ length (now x))
+        × (m ≤ length (now multipliers)) ⌝ }
+    ensures { λ r. ⌜ r
+        ≡ Definition.stationarity n m (now (k .entry)) (now (c .entry)) (now (e .entry)) (now (x .entry)) (now (multipliers .entry)) ⌝ }
 {
     let kx = dense::mul_vec(k, n, n, x);
     let el = dense::mul_vec(e, n, m, multipliers);
@@ -47,7 +55,7 @@ fn stationarity(
 
 // ‖Eᵀx − b‖
 fn feasibility(e: &[f64], b: &[f64], x: &[f64], n: usize, m: usize) -> f64
-    requires { ⌜ (m ≤ 24) × (n * m ≤ length (now e)) × (m ≤ length (now b)) × (n ≤ length (now x)) ⌝ }
+    requires { ⌜ (m ≤ Sizes.columns) × (n * m ≤ length (now e)) × (m ≤ length (now b)) × (n ≤ length (now x)) ⌝ }
     ensures { λ r. ⌜ r ≡ Definition.feasibility n m (now (e .entry)) (now (b .entry)) (now (x .entry)) ⌝ }
 {
     let ex = dense::tr_mul_vec(e, n, m, x);
@@ -66,8 +74,10 @@ fn size(
     m: usize,
     noise: f64,
 ) -> f64
-    requires { ⌜ (n * n ≤ 1024) × (n * m ≤ 768) × (n * n ≤ length (now k)) × (n ≤ length (now c)) × (n * m ≤ length (now e)) × (m ≤ length (now b)) × (n ≤ length (now x)) × (m ≤ length (now multipliers)) ⌝ }
-    ensures { λ r. ⌜ r ≡ Definition.size n m (now (k .entry)) (now (c .entry)) (now (e .entry)) (now (b .entry)) (now (x .entry)) (now (multipliers .entry)) noise ⌝ }
+    requires { ⌜ Sized n m (now k) (now c) (now e) (now b) × (n ≤ length (now x)) × (m ≤ length (now multipliers)) ⌝ }
+    ensures { λ r. ⌜ r
+        ≡ Definition.size (system n m (now (k .entry)) (now (c .entry)) (now (e .entry)) (now (b .entry)))
+        (now (x .entry)) (now (multipliers .entry)) noise ⌝ }
 {
     let x_norm = vector::scaled_norm(x, n);
     let k_terms = vector::scaled_norm(k, n * n) * x_norm;
@@ -86,8 +96,10 @@ pub fn kkt_residual(
     m: usize,
     noise: f64,
 ) -> Residual
-    requires { ⌜ (n ≤ 32) × (m ≤ 24) × (n * n ≤ 1024) × (n * m ≤ 768) × (n * n ≤ length (now k)) × (n ≤ length (now c)) × (n * m ≤ length (now e)) × (m ≤ length (now b)) × (n ≤ length (now x)) × (m ≤ length (now multipliers)) ⌝ }
-    ensures { λ r. ⌜ r ≡ Definition.kktResidual n m (now (k .entry)) (now (c .entry)) (now (e .entry)) (now (b .entry)) (now (x .entry)) (now (multipliers .entry)) noise ⌝ }
+    requires { ⌜ Sized n m (now k) (now c) (now e) (now b) × (n ≤ length (now x)) × (m ≤ length (now multipliers)) ⌝ }
+    ensures { λ r. ⌜ r
+        ≡ Definition.kktResidual (system n m (now (k .entry)) (now (c .entry)) (now (e .entry)) (now (b .entry)))
+        (now (x .entry)) (now (multipliers .entry)) noise ⌝ }
 {
     let residual = stationarity(k, c, e, x, multipliers, n, m) + feasibility(e, b, x, n, m);
     let size = size(k, c, e, b, x, multipliers, n, m, noise);
@@ -138,56 +150,34 @@ fn above_0_or_1(s: f64) -> f64
     1.0
 }
 
-fn column_scale(e: &[f64], n: usize, m: usize, j: usize) -> f64
-    requires { ⌜ (n * m ≤ length (now e)) × (j < m) ⌝ }
-    ensures { λ r. ⌜ r ≡ Definition.columnScale n (now (e .entry)) j ⌝ }
-{
-    above_0_or_1(vector::amax(matrix::column(e, n, m, j), n))
-}
-
-fn write_column_scales(e: &[f64], n: usize, m: usize, y: &mut [f64])
-    requires { ⌜ (n * m ≤ length (now e)) × (m ≤ length (now y)) ⌝ }
-    ensures { λ _. ⌜ now (y .exit) ≡ over (Definition.columnScales n m (now (e .entry))) (now (y .entry)) ⌝ }
-{
-    for j in 0..m {
-        y[j] = column_scale(e, n, m, j);
-    }
-}
-
-pub fn column_scales(e: &[f64], n: usize, m: usize) -> [f64; 24]
-    requires { ⌜ (m ≤ 24) × (n * m ≤ length (now e)) ⌝ }
-    ensures { λ r. ⌜ take m r ≡ Definition.columnScales n m (now (e .entry)) ⌝ }
-{
-    let mut y = [0.0; 24];
-    write_column_scales(e, n, m, &mut y);
-    y
-}
-
-fn e_column(e: &[f64], n: usize, m: usize, scale: f64, j: usize, y: &mut [f64])
-    requires { ⌜ (n * m ≤ length (now e)) × (n * m ≤ length (now y)) × (j < m) ⌝ }
-    ensures { λ _. ⌜ now (y .exit) ≡ putColumn n n j (λ i. Definition.scaledEntry n (now (e .entry)) scale i j) (now (y .entry)) ⌝ }
+fn above_0_or_1_each(y: &mut [f64], n: usize)
+    requires { ⌜ n ≤ length (now y) ⌝ }
+    ensures { λ _. ⌜ now (y .exit) ≡ over (Definition.above0Or1Each n (now (y .entry))) (now (y .entry)) ⌝ }
 {
     for i in 0..n {
-        let v = matrix::get(e, n, m, i, j) / scale;
-        matrix::put(y, n, m, i, j, v);
+        y[i] = above_0_or_1(y[i]);
     }
 }
 
-fn write_e(e: &[f64], n: usize, m: usize, columns: &[f64], y: &mut [f64])
-    requires { ⌜ (n * m ≤ length (now e)) × (m ≤ length (now columns)) × (n * m ≤ length (now y)) ⌝ }
-    ensures { λ _. ⌜ now (y .exit) ≡ over (Definition.scaledE n m (now (e .entry)) (now (columns .entry))) (now (y .entry)) ⌝ }
+pub fn column_scales(e: &[f64], n: usize, m: usize) -> [f64; sizes::COLUMNS]
+    requires { ⌜ (m ≤ Sizes.columns) × (n * m ≤ length (now e)) ⌝ }
+    ensures { λ r. ⌜ take m r ≡ Definition.columnScales n m (now (e .entry)) ⌝ }
 {
-    for j in 0..m {
-        e_column(e, n, m, columns[j], j, y);
-    }
-}
-
-// E, each column over its scale.
-pub fn scaled_e(e: &[f64], n: usize, m: usize, columns: &[f64]) -> [f64; 768]
-    requires { ⌜ (n * m ≤ 768) × (n * m ≤ length (now e)) × (m ≤ length (now columns)) ⌝ }
-    ensures { λ r. ⌜ take (n * m) r ≡ Definition.scaledE n m (now (e .entry)) (now (columns .entry)) ⌝ }
-{
-    let mut y = [0.0; 768];
-    write_e(e, n, m, columns, &mut y);
+    let mut y = [0.0; sizes::COLUMNS];
+    matrix::columns_amax(e, n, m, &mut y);
+    above_0_or_1_each(&mut y, m);
     y
+}
+
+// E, each column over its scale, over the start of y.
+pub fn scaled_e(e: &[f64], n: usize, m: usize, scales: &[f64], y: &mut [f64])
+    requires { ⌜ (n ≤ Sizes.variables)
+        × (m ≤ Sizes.columns)
+        × (n * m ≤ length (now e))
+        × (m ≤ length (now scales))
+        × (n * m ≤ length (now y)) ⌝ }
+    ensures { λ _. ⌜ now (y .exit) ≡ over (columnsDivided n m (now (e .entry)) (now (scales .entry))) (now (y .entry)) ⌝ }
+{
+    vector::copy(e, n * m, y);
+    matrix::divide_columns(y, n, m, scales);
 }

@@ -1,12 +1,12 @@
 -- qp.rs, the answers of `solve_noisy_kkt` and `solve_kkt`, and what is done with them.
 use Prim.Native.Nat.{ℕ}
-use mathlib.Core.Path.{_≡_, refl, ap}
 use mathlib.Core.List.{List}
 use lib.Ieee.{Float}
 use lib.ListN.{take}
 use Rattle.folds.specs.Fold.{tab, pick}
 use Rattle.arith.specs.Float.{fmul, fdiv, at}
 use Rattle.vector.specs.Vector.{allFinite}
+use Rattle.scaled.specs.System.{System, system}
 use Rattle.scaled.specs.Scaled.{kktResidual, withinRounding}
 use Rattle.scaled.specs.declared.Rounding.{Rounding}
 use Rattle.scaled.specs.declared.Rounding.the-variants.{Overflowed, Outside, Within}
@@ -36,8 +36,9 @@ judge Overflowed n x multipliers = singular
 judge Outside n x multipliers = noOptimum
 judge Within n x multipliers = pick (allFinite n x) (optimum x multipliers) singular
 
-unfoldable pub judged : ℕ → ℕ → List Float → List Float → List Float → List Float → List Float → List Float → Float → Kkt
-judged n m k c e b x multipliers noise = judge (withinRounding (kktResidual n m k c e b x multipliers noise)) n x multipliers
+unfoldable pub judged : System → (x multipliers : List Float) (noise : Float) → Kkt
+judged (system n m k c e b) x multipliers noise =
+    judge (withinRounding (kktResidual (system n m k c e b) x multipliers noise)) n x multipliers
 
 -- `multipliers[j] * problem.k_scale / problem.column_scales[j]`
 unfoldable pub rescaledMultipliers : ℕ → List Float → Float → List Float → List Float
@@ -48,12 +49,3 @@ rescaled m scale columns (optimum x multipliers) = optimum x (rescaledMultiplier
 rescaled m scale columns noOptimum = noOptimum
 rescaled m scale columns nonFinite = nonFinite
 rescaled m scale columns singular = singular
-
--- the verdict stays
-pub rescaled-from : {l : List Float} (verdict : Verdict) (m : ℕ) (scale : Float) (columns x multipliers : List Float) →
-    l ≡ rescaledMultipliers m multipliers scale columns → answer verdict x l ≡ rescaled m scale columns (answer verdict x multipliers)
-unfolding answer rescaled
-rescaled-from Solved m scale columns x multipliers e = ap (optimum x) e
-rescaled-from NoOptimum m scale columns x multipliers e = refl
-rescaled-from NonFiniteCovariance m scale columns x multipliers e = refl
-rescaled-from SingularCovariance m scale columns x multipliers e = refl

@@ -3,6 +3,8 @@ ghost use mathlib.Core.Path.{_≡_};
 ghost use Prim.Native.Nat.{_≤_, _*_};
 ghost use lib.ListN.{length, take};
 ghost use Rattle.folds.specs.Fold.{over};
+ghost use Rattle.sizes.specs.Sizes as Sizes;
+ghost use Rattle.scaled.specs.System.{Sized, system};
 ghost use Rattle.solution.specs.Solution as Definition;
 use scaled::Rounding;
 
@@ -17,8 +19,8 @@ pub enum Verdict {
 // A verdict and, where it is Solved, x and the multipliers.
 pub struct Solution {
     pub verdict: Verdict,
-    pub x: [f64; 48],
-    pub multipliers: [f64; 24],
+    pub x: [f64; sizes::VARIABLES],
+    pub multipliers: [f64; sizes::COLUMNS],
 }
 
 pub fn refused(verdict: Verdict) -> Solution
@@ -26,8 +28,8 @@ pub fn refused(verdict: Verdict) -> Solution
 {
     Solution {
         verdict: verdict,
-        x: [0.0; 48],
-        multipliers: [0.0; 24],
+        x: [0.0; sizes::VARIABLES],
+        multipliers: [0.0; sizes::COLUMNS],
     }
 }
 
@@ -37,14 +39,15 @@ pub fn judged(
     c: &[f64],
     e: &[f64],
     b: &[f64],
-    x: [f64; 48],
-    multipliers: [f64; 24],
+    x: [f64; sizes::VARIABLES],
+    multipliers: [f64; sizes::COLUMNS],
     n: usize,
     m: usize,
     noise: f64,
 ) -> Solution
-    requires { ⌜ (n ≤ 32) × (m ≤ 24) × (n * n ≤ 1024) × (n * m ≤ 768) × (n * n ≤ length (now k)) × (n ≤ length (now c)) × (n * m ≤ length (now e)) × (m ≤ length (now b)) ⌝ }
-    ensures { λ r. ⌜ Definition.solutionOf n m r ≡ Definition.judged n m (now (k .entry)) (now (c .entry)) (now (e .entry)) (now (b .entry)) (take n x) (take m multipliers) noise ⌝ }
+    requires { ⌜ Sized n m (now k) (now c) (now e) (now b) ⌝ }
+    ensures { λ r. ⌜ Definition.solutionOf n m r
+        ≡ Definition.judged (system n m (now (k .entry)) (now (c .entry)) (now (e .entry)) (now (b .entry))) (take n x) (take m multipliers) noise ⌝ }
 {
     let residual = scaled::kkt_residual(k, c, e, b, &x[..n], &multipliers[..m], n, m, noise);
     match scaled::within_rounding(residual) {
@@ -65,18 +68,24 @@ pub fn judged(
 
 fn write_rescaled(multipliers: &[f64], scale: f64, columns: &[f64], m: usize, y: &mut [f64])
     requires { ⌜ (m ≤ length (now multipliers)) × (m ≤ length (now columns)) × (m ≤ length (now y)) ⌝ }
-    ensures { λ _. ⌜ now (y .exit) ≡ over (Definition.rescaledMultipliers m (now (multipliers .entry)) scale (now (columns .entry))) (now (y .entry)) ⌝ }
+    ensures { λ _. ⌜ now (y .exit)
+        ≡ over (Definition.rescaledMultipliers m (now (multipliers .entry)) scale (now (columns .entry))) (now (y .entry)) ⌝ }
 {
     for j in 0..m {
         y[j] = multipliers[j] * scale / columns[j];
     }
 }
 
-fn rescaled_multipliers(multipliers: &[f64], scale: f64, columns: &[f64], m: usize) -> [f64; 24]
-    requires { ⌜ (m ≤ 24) × (m ≤ length (now multipliers)) × (m ≤ length (now columns)) ⌝ }
+fn rescaled_multipliers(
+    multipliers: &[f64],
+    scale: f64,
+    columns: &[f64],
+    m: usize,
+) -> [f64; sizes::COLUMNS]
+    requires { ⌜ (m ≤ Sizes.columns) × (m ≤ length (now multipliers)) × (m ≤ length (now columns)) ⌝ }
     ensures { λ r. ⌜ take m r ≡ Definition.rescaledMultipliers m (now (multipliers .entry)) scale (now (columns .entry)) ⌝ }
 {
-    let mut y = [0.0; 24];
+    let mut y = [0.0; sizes::COLUMNS];
     write_rescaled(multipliers, scale, columns, m, &mut y);
     y
 }
@@ -84,15 +93,16 @@ fn rescaled_multipliers(multipliers: &[f64], scale: f64, columns: &[f64], m: usi
 // The multipliers of the system before K and the columns of E were scaled.
 pub fn rescaled(
     verdict: Verdict,
-    x: [f64; 48],
-    multipliers: [f64; 24],
+    x: [f64; sizes::VARIABLES],
+    multipliers: [f64; sizes::COLUMNS],
     scale: f64,
     columns: &[f64],
     n: usize,
     m: usize,
 ) -> Solution
-    requires { ⌜ (m ≤ 24) × (m ≤ length (now columns)) ⌝ }
-    ensures { λ r. ⌜ Definition.solutionOf n m r ≡ Definition.rescaled m scale (now (columns .entry)) (Definition.answer verdict (take n x) (take m multipliers)) ⌝ }
+    requires { ⌜ (m ≤ Sizes.columns) × (m ≤ length (now columns)) ⌝ }
+    ensures { λ r. ⌜ Definition.solutionOf n m r
+        ≡ Definition.rescaled m scale (now (columns .entry)) (Definition.answer verdict (take n x) (take m multipliers)) ⌝ }
 {
     let restored = rescaled_multipliers(&multipliers[..m], scale, columns, m);
     Solution {

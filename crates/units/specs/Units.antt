@@ -1,13 +1,13 @@
 -- qp.rs, `checked`, `Units` and `diagonal_scales`. K is n by n, E is n by m; c and x have n elements, b has m.
 use Prim.Native.Nat.{ℕ}
-use mathlib.Core.Bool.{Bool, true, false, not}
+use mathlib.Core.Bool.{Bool, true, false}
 use mathlib.Core.List.{List}
 use lib.Ieee.{Float, binary64, isNan, lt, eq, ofBits}
-use Rattle.folds.specs.Fold.{tab, tabM, all, pick, both}
+use Rattle.folds.specs.Fold.{tab, all, pick}
 use Rattle.arith.specs.Float.{fadd, fsub, fmul, fdiv, sqrt, f0, f1, at, sum}
 use Rattle.arith.specs.Scalar.{abs, max, isFinite}
 use Rattle.vector.specs.Vector.{amax, div}
-use Rattle.matrix.specs.Matrix.{cell, column}
+use Rattle.matrix.specs.Matrix.{cell, column, columnsAmax, rowsDivided, columnsDivided}
 
 -- ---- `checked`: whether x satisfies Eᵀx = b in the original units, each constraint to within 1e-8 of the size of its terms
 -- `(column / scale).component_mul(&x)`
@@ -58,25 +58,20 @@ checked n m x e b columns = all m (λ j. met n x (column n e j) (at b j) (at col
 unfoldable pub scaleOr1 : Float → Float
 scaleOr1 s = pick (isFinite s) (pick (lt f0 s) s f1) f1
 
+unfoldable pub scalesOr1 : ℕ → List Float → List Float
+scalesOr1 n l = tab n (λ i. scaleOr1 (at l i))
+
 -- the largest entry of each column of E, or 1 where that's zero or not finite
-unfoldable pub columnScale : ℕ → List Float → ℕ → Float
-columnScale n e j = scaleOr1 (amax n (column n e j))
-
 unfoldable pub columnScales : ℕ → ℕ → List Float → List Float
-columnScales n m e = tab m (columnScale n e)
+columnScales n m e = scalesOr1 m (columnsAmax n m e)
 
--- dividing by each scale in turn
-unfoldable pub unitK : ℕ → List Float → List Float → ℕ → ℕ → Float
-unitK n k scales i j = fdiv (fdiv (cell k n i j) (at scales i)) (at scales j)
-
+-- `k[(i, j)] / scales[i] / scales[j]`: dividing by each scale in turn
 unfoldable pub unitsK : ℕ → List Float → List Float → List Float
-unitsK n k scales = tabM n n (unitK n k scales)
+unitsK n k scales = columnsDivided n n (rowsDivided n n k scales) scales
 
-unfoldable pub unitE : ℕ → List Float → List Float → Float → ℕ → ℕ → Float
-unitE n e scales scale i j = fdiv (fdiv (cell e n i j) scale) (at scales i)
-
+-- `e[(i, j)] / column_scales[j] / scales[i]`
 unfoldable pub unitsE : ℕ → ℕ → List Float → List Float → List Float → List Float
-unitsE n m e scales columns = tabM n m (λ i j. unitE n e scales (at columns j) i j)
+unitsE n m e scales columns = rowsDivided n m (columnsDivided n m e columns) scales
 
 -- `c.component_div(&scales)`, and each entry of b over its column's scale
 abbrev pub unitsC : ℕ → List Float → List Float → List Float

@@ -3,7 +3,7 @@ ghost use mathlib.Core.Path.{_≡_};
 ghost use Prim.Native.Nat.{_≤_, _<_, _*_};
 ghost use lib.ListN.{length, take};
 ghost use Rattle.folds.specs.Fold.{over};
-ghost use Rattle.matrix.specs.Matrix.{putColumn};
+ghost use Rattle.sizes.specs.Sizes as Sizes;
 ghost use Rattle.units.specs.Units as Units;
 
 fn write_terms(e: &[f64], x: &[f64], n: usize, scale: f64, y: &mut [f64])
@@ -16,11 +16,11 @@ fn write_terms(e: &[f64], x: &[f64], n: usize, scale: f64, y: &mut [f64])
 }
 
 // The terms of a constraint, over its column's scale; e is the column.
-fn terms(e: &[f64], x: &[f64], n: usize, scale: f64) -> [f64; 48]
-    requires { ⌜ (n ≤ 48) × (n ≤ length (now e)) × (n ≤ length (now x)) ⌝ }
+fn terms(e: &[f64], x: &[f64], n: usize, scale: f64) -> [f64; sizes::VARIABLES]
+    requires { ⌜ (n ≤ Sizes.variables) × (n ≤ length (now e)) × (n ≤ length (now x)) ⌝ }
     ensures { λ r. ⌜ take n r ≡ Units.terms n (now (e .entry)) (now (x .entry)) scale ⌝ }
 {
-    let mut y = [0.0; 48];
+    let mut y = [0.0; sizes::VARIABLES];
     write_terms(e, x, n, scale, &mut y);
     y
 }
@@ -80,7 +80,7 @@ fn column_met(terms: &[f64], n: usize, target: f64) -> bool
 }
 
 fn met(x: &[f64], e: &[f64], n: usize, target: f64, scale: f64) -> bool
-    requires { ⌜ (n ≤ 48) × (n ≤ length (now x)) × (n ≤ length (now e)) ⌝ }
+    requires { ⌜ (n ≤ Sizes.variables) × (n ≤ length (now x)) × (n ≤ length (now e)) ⌝ }
     ensures { λ r. ⌜ r ≡ Units.met n (now (x .entry)) (now (e .entry)) target scale ⌝ }
 {
     let terms = terms(e, x, n, scale);
@@ -89,7 +89,7 @@ fn met(x: &[f64], e: &[f64], n: usize, target: f64, scale: f64) -> bool
 
 // Whether x satisfies Eᵀx = b in the original units; `columns` are the columns' scales.
 pub fn checked(x: &[f64], e: &[f64], b: &[f64], columns: &[f64], n: usize, m: usize) -> bool
-    requires { ⌜ (n ≤ 48) × (n ≤ length (now x)) × (n * m ≤ length (now e)) × (m ≤ length (now b)) × (m ≤ length (now columns)) ⌝ }
+    requires { ⌜ (n ≤ Sizes.variables) × (n ≤ length (now x)) × (n * m ≤ length (now e)) × (m ≤ length (now b)) × (m ≤ length (now columns)) ⌝ }
     ensures { λ r. ⌜ r ≡ Units.checked n m (now (x .entry)) (now (e .entry)) (now (b .entry)) (now (columns .entry)) ⌝ }
 {
     for j in 0..m {
@@ -111,87 +111,49 @@ fn scale_or_1(s: f64) -> f64
     1.0
 }
 
-fn column_scale(e: &[f64], n: usize, m: usize, j: usize) -> f64
-    requires { ⌜ (n * m ≤ length (now e)) × (j < m) ⌝ }
-    ensures { λ r. ⌜ r ≡ Units.columnScale n (now (e .entry)) j ⌝ }
+fn scales_or_1(y: &mut [f64], n: usize)
+    requires { ⌜ n ≤ length (now y) ⌝ }
+    ensures { λ _. ⌜ now (y .exit) ≡ over (Units.scalesOr1 n (now (y .entry))) (now (y .entry)) ⌝ }
 {
-    scale_or_1(vector::amax(matrix::column(e, n, m, j), n))
-}
-
-fn write_column_scales(e: &[f64], n: usize, m: usize, y: &mut [f64])
-    requires { ⌜ (n * m ≤ length (now e)) × (m ≤ length (now y)) ⌝ }
-    ensures { λ _. ⌜ now (y .exit) ≡ over (Units.columnScales n m (now (e .entry))) (now (y .entry)) ⌝ }
-{
-    for j in 0..m {
-        y[j] = column_scale(e, n, m, j);
+    for i in 0..n {
+        y[i] = scale_or_1(y[i]);
     }
 }
 
-pub fn column_scales(e: &[f64], n: usize, m: usize) -> [f64; 24]
-    requires { ⌜ (m ≤ 24) × (n * m ≤ length (now e)) ⌝ }
+pub fn column_scales(e: &[f64], n: usize, m: usize) -> [f64; sizes::COLUMNS]
+    requires { ⌜ (m ≤ Sizes.columns) × (n * m ≤ length (now e)) ⌝ }
     ensures { λ r. ⌜ take m r ≡ Units.columnScales n m (now (e .entry)) ⌝ }
 {
-    let mut y = [0.0; 24];
-    write_column_scales(e, n, m, &mut y);
+    let mut y = [0.0; sizes::COLUMNS];
+    matrix::columns_amax(e, n, m, &mut y);
+    scales_or_1(&mut y, m);
     y
 }
 
-fn k_column(k: &[f64], n: usize, scales: &[f64], j: usize, y: &mut [f64])
-    requires { ⌜ (n * n ≤ length (now k)) × (n ≤ length (now scales)) × (n * n ≤ length (now y)) × (j < n) ⌝ }
-    ensures { λ _. ⌜ now (y .exit) ≡ putColumn n n j (λ i. Units.unitK n (now (k .entry)) (now (scales .entry)) i j) (now (y .entry)) ⌝ }
-{
-    for i in 0..n {
-        let v = matrix::get(k, n, n, i, j) / scales[i] / scales[j];
-        matrix::put(y, n, n, i, j, v);
-    }
-}
-
-fn write_k(k: &[f64], n: usize, scales: &[f64], y: &mut [f64])
-    requires { ⌜ (n * n ≤ length (now k)) × (n ≤ length (now scales)) × (n * n ≤ length (now y)) ⌝ }
+// K in units, over the start of y; dividing by each scale in turn, so that tiny scales' product can't underflow.
+pub fn units_k(k: &[f64], n: usize, scales: &[f64], y: &mut [f64])
+    requires { ⌜ (n ≤ Sizes.variables) × (n * n ≤ length (now k)) × (n ≤ length (now scales)) × (n * n ≤ length (now y)) ⌝ }
     ensures { λ _. ⌜ now (y .exit) ≡ over (Units.unitsK n (now (k .entry)) (now (scales .entry))) (now (y .entry)) ⌝ }
 {
-    for j in 0..n {
-        k_column(k, n, scales, j, y);
-    }
+    vector::copy(k, n * n, y);
+    matrix::divide_rows(y, n, n, scales);
+    matrix::divide_columns(y, n, n, scales);
 }
 
-// K in units.
-pub fn units_k(k: &[f64], n: usize, scales: &[f64]) -> [f64; 2304]
-    requires { ⌜ (n * n ≤ 2304) × (n * n ≤ length (now k)) × (n ≤ length (now scales)) ⌝ }
-    ensures { λ r. ⌜ take (n * n) r ≡ Units.unitsK n (now (k .entry)) (now (scales .entry)) ⌝ }
+// E in units, over the start of y; `columns` are the columns' scales.
+pub fn units_e(e: &[f64], n: usize, m: usize, scales: &[f64], columns: &[f64], y: &mut [f64])
+    requires { ⌜ (n ≤ Sizes.variables)
+        × (m ≤ Sizes.columns)
+        × (n * m ≤ length (now e))
+        × (n ≤ length (now scales))
+        × (m ≤ length (now columns))
+        × (n * m ≤ length (now y)) ⌝ }
+    ensures { λ _. ⌜ now (y .exit)
+        ≡ over (Units.unitsE n m (now (e .entry)) (now (scales .entry)) (now (columns .entry))) (now (y .entry)) ⌝ }
 {
-    let mut y = [0.0; 2304];
-    write_k(k, n, scales, &mut y);
-    y
-}
-
-fn e_column(e: &[f64], n: usize, m: usize, scales: &[f64], scale: f64, j: usize, y: &mut [f64])
-    requires { ⌜ (n * m ≤ length (now e)) × (n ≤ length (now scales)) × (n * m ≤ length (now y)) × (j < m) ⌝ }
-    ensures { λ _. ⌜ now (y .exit) ≡ putColumn n n j (λ i. Units.unitE n (now (e .entry)) (now (scales .entry)) scale i j) (now (y .entry)) ⌝ }
-{
-    for i in 0..n {
-        let v = matrix::get(e, n, m, i, j) / scale / scales[i];
-        matrix::put(y, n, m, i, j, v);
-    }
-}
-
-fn write_e(e: &[f64], n: usize, m: usize, scales: &[f64], columns: &[f64], y: &mut [f64])
-    requires { ⌜ (n * m ≤ length (now e)) × (n ≤ length (now scales)) × (m ≤ length (now columns)) × (n * m ≤ length (now y)) ⌝ }
-    ensures { λ _. ⌜ now (y .exit) ≡ over (Units.unitsE n m (now (e .entry)) (now (scales .entry)) (now (columns .entry))) (now (y .entry)) ⌝ }
-{
-    for j in 0..m {
-        e_column(e, n, m, scales, columns[j], j, y);
-    }
-}
-
-// E in units; `columns` are the columns' scales.
-pub fn units_e(e: &[f64], n: usize, m: usize, scales: &[f64], columns: &[f64]) -> [f64; 1152]
-    requires { ⌜ (n * m ≤ 1152) × (n * m ≤ length (now e)) × (n ≤ length (now scales)) × (m ≤ length (now columns)) ⌝ }
-    ensures { λ r. ⌜ take (n * m) r ≡ Units.unitsE n m (now (e .entry)) (now (scales .entry)) (now (columns .entry)) ⌝ }
-{
-    let mut y = [0.0; 1152];
-    write_e(e, n, m, scales, columns, &mut y);
-    y
+    vector::copy(e, n * m, y);
+    matrix::divide_columns(y, n, m, columns);
+    matrix::divide_rows(y, n, m, scales);
 }
 
 fn diagonal_scale(k: &[f64], n: usize, i: usize) -> f64
@@ -210,11 +172,11 @@ fn write_diagonal_scales(k: &[f64], n: usize, y: &mut [f64])
     }
 }
 
-pub fn diagonal_scales(k: &[f64], n: usize) -> [f64; 48]
-    requires { ⌜ (n ≤ 48) × (n * n ≤ length (now k)) ⌝ }
+pub fn diagonal_scales(k: &[f64], n: usize) -> [f64; sizes::VARIABLES]
+    requires { ⌜ (n ≤ Sizes.variables) × (n * n ≤ length (now k)) ⌝ }
     ensures { λ r. ⌜ take n r ≡ Units.diagonalScales n (now (k .entry)) ⌝ }
 {
-    let mut y = [0.0; 48];
+    let mut y = [0.0; sizes::VARIABLES];
     write_diagonal_scales(k, n, &mut y);
     y
 }

@@ -1,43 +1,31 @@
-use Rattle.folds.specs.Kit.{_≡_, _*_, _≤_, arith, length, needs, sym}
-use Rattle.folds.specs.Cell.{area}
-use lib.Seq.{length-take-le}
-use Rattle.constraints.specs.Constraints.{lessRange}
+use Rattle.folds.specs.Kit.{kit}
+use Rattle.folds.specs.Tab.{over-whole}
+use Rattle.vector.specs.Laws.{length-sub}
+use Rattle.matrix.specs.Laws.{length-mul, length-trMul}
+use Rattle.constraints.specs.Laws.{less-from}
 use Rattle.constraints.proofs.less_range.Statement.{statement}
 use Rattle.constraints.proofs.less_range.Tie as tie
 
-rows-le : (c : tie.Start) → c .args .rank * c .args .d ≤ 1024
-rows-le c = area {x = 32} {y = 32} (omega arith) (omega arith)
-
-entries-le : (c : tie.Start) → c .args .n * c .args .d ≤ 1024
-entries-le c = area {x = 32} {y = 32} (c .pre .3) (omega arith)
-
-part-length : (c : tie.After-tr-mul) → length (c .tr-mul .result) ≡ 1024
-part-length c = search needs
-
-spanned-length : (c : tie.After-mul) → length (c .mul .result) ≡ 1024
-spanned-length c = search needs
-
-slice-aggregate-mul : tie.Need-slice-aggregate-mul
-slice-aggregate-mul c = sym (length-take-le _ _ (omega (arith, rows-le (c .before .before .before .before), part-length (c .before))))
-
-slice-aggregate-sub-matrix : tie.Need-slice-aggregate-sub-matrix
-slice-aggregate-sub-matrix c = sym (length-take-le _ _ (omega (arith, entries-le (c .before .before .before .before .before .before), spanned-length (c .before))))
-
 returns : tie.Need-returns
-unfolding lessRange
-returns c = rw (c .sub-matrix .ensures, c .before .before .mul .ensures, c .before .before .before .before .tr-mul .ensures)
+returns c =
+    let b2 = c .before .before in
+    let b7 = b2 .before .before .before .before .before in
+    let b12 = b7 .before .before .before .before .before in
+    let s = b12 .before .before .before .before .before .before .before in
+    let a = s .args in
+    let r = s .pre in
+    less-from (a .n) (a .rank) (a .range .now) (a .d) (a .null .now) (over-whole _ _ (length-trMul _ _ _ _ _) (r .2) (b12 .tr-mul .ensures))
+    (over-whole _ _ (length-mul _ _ _ _ _) (r .3) (b7 .mul .ensures)) (over-whole _ _ (length-sub _ _ _) (r .0) (b2 .sub-from .ensures))
 
 pub less-range-spec : {M : Type 1} → statement M
 less-range-spec =
     tie.close
     (tie.spec
-    (λ c κs. let s = c .before .before in (rows-le s, s .pre .1, s .pre .0))  -- tr-mul-requires
-    (λ c. omega (arith, rows-le (c .before .before .before)))  -- mul-rows
-    (λ c. omega (arith, rows-le (c .before .before .before)))  -- array-share-prefix-part
-    slice-aggregate-mul
-    (λ c κs. let s = c .before .before .before .before in (entries-le s, s .pre .1, omega (arith, slice-aggregate-mul c)))  -- mul-requires
-    (λ c. omega (arith, entries-le (c .before .before .before .before .before)))  -- mul-entries
-    (λ c. omega (arith, entries-le (c .before .before .before .before .before)))  -- array-share-prefix-spanned
-    slice-aggregate-sub-matrix
-    (λ c κs. let s = c .before .before .before .before .before .before in (entries-le s, s .pre .0, omega (arith, slice-aggregate-sub-matrix c)))  -- sub-matrix-requires
+    (λ c κs. search kit)  -- tr-mul-requires
+    (λ c κs. search kit)  -- mul-requires
+    (λ c. search kit)  -- mul-sub-from
+    (λ c κs. search kit)  -- sub-from-requires
+    (λ c. search kit)  -- same-length
+    (λ c. search kit)  -- same-length-2
+    (λ c. search kit)  -- same-length-3
     returns)

@@ -1,5 +1,6 @@
-use Rattle.folds.specs.Kit.{_≡_, _+_, _-_, _≤_, arith, length, fold-call, kit}
+use Rattle.folds.specs.Kit.{_≡_, _+_, _-_, _≤_, arith, length, kit}
 use Rattle.matrix.specs.Matrix.{cell, putColumn}
+use Rattle.matrix.specs.Laws.{column-kit, column-call}
 use Rattle.constraints.proofs.rows_transposed_column.Statement.{statement}
 use Rattle.constraints.proofs.rows_transposed_column.Tie as tie
 
@@ -9,26 +10,17 @@ Inv-loop q n rank d j z₀ i₀ z i = (i ≤ n) × (length z ≡ length z₀) ×
 abbrev μ-loop : tie.MeasureT-loop
 μ-loop q n rank d j z₀ i₀ z i = n - i
 
-loop-holds : tie.Need-loop-holds Inv-loop μ-loop
-unfolding putColumn
-loop-holds c = search kit
-
 loop-again : tie.Need-loop-again Inv-loop μ-loop
-unfolding putColumn
 loop-again c =
     let b4 = c .before .before .before .before in
-    let b6 = b4 .before .before in
-    (omega arith, omega arith, fold-call _ _ _ (b6 .loop .inv .2) (rw (c .before .before .put .ensures, b4 .get .ensures)))
-
-returns : tie.Need-returns Inv-loop μ-loop
-unfolding putColumn
-returns c = search kit
+    let inv = b4 .before .before .loop .inv in
+    (omega arith, omega arith, column-call _ _ _ _ _ (inv .2) (rw (c .before .before .put .ensures, b4 .get .ensures)))
 
 pub rows-transposed-column-spec : {M : Type 1} → statement M
 rows-transposed-column-spec =
     tie.close
     (tie.spec Inv-loop μ-loop
-    loop-holds
+    (λ c. search column-kit)  -- loop-holds
     (λ c. search kit)  -- add-get
     (λ c κs. search kit)  -- get-requires
     (λ c κs. search kit)  -- put-requires
@@ -36,4 +28,4 @@ rows-transposed-column-spec =
     (λ c. search kit)  -- loop-less
     loop-again
     (λ c. search kit)  -- same-length
-    returns)
+    (λ c. search column-kit))  -- returns

@@ -1,8 +1,8 @@
 use Rattle.folds.specs.Kit.{refl, sym, _∙_, arith, needs}
 use lib.Seq.{length-take-le}
-use Rattle.solution.specs.Solution.{answer}
+use Rattle.vector.specs.Laws.{copy-over}
+use Rattle.solution.specs.Laws.{answer-solved, answer-noOptimum, answer-nonFinite, answer-singular}
 use Rattle.kkt.specs.Kkt.{number, xOr, multipliersOr}
-use Rattle.kkt.specs.Laws.{copy-over}
 use Rattle.kkt.proofs.write.Statement.{statement}
 use Rattle.kkt.proofs.write.Tie as tie
 
@@ -19,25 +19,29 @@ copy-requires-2 : tie.Need-copy-requires-2
 copy-requires-2 c κs = (omega (arith, slice-aggregate-copy-2 (c .before)), omega arith)
 
 returns : tie.Need-returns
-unfolding number xOr multipliersOr answer
+unfolding number xOr multipliersOr
 returns c =
-    let b2 = c .before .before in
-    let b7 = b2 .before .before .before .before .before in
-    let p = b7 .before .before .before .before .before .before .before .pre in
-    rw (b7 .before .before .before .enum-told .given .1)
-    (refl, (b7 .copy .ensures ∙ copy-over _ _ _ (sym (slice-aggregate-copy (b7 .before .before))) (p .2), b2 .copy2 .ensures ∙ copy-over _ _ _ (sym (slice-aggregate-copy-2 (b2 .before .before))) (p .3)))
+    let y = c .before .before in
+    let x = y .before .before .before .before .before in
+    let p = x .before .before .before .before .before .before .before .pre in
+    simp (x .before .before .before .enum-told .given .1, answer-solved, answer-noOptimum, answer-nonFinite, answer-singular)
+    (record {
+      numbered = refl;
+      x-written = x .copy .ensures ∙ copy-over _ _ _ (sym (slice-aggregate-copy (x .before .before))) (p .2);
+      multipliers-written = y .copy2 .ensures ∙ copy-over _ _ _ (sym (slice-aggregate-copy-2 (y .before .before))) (p .3);
+    })
 
 returns-2 : tie.Need-returns-2
-unfolding number xOr multipliersOr answer
-returns-2 c = rw (c .enum-told2 .given .1) (refl, (refl, refl))
+unfolding number xOr multipliersOr
+returns-2 c = rw (c .enum-told2 .given .1, answer-noOptimum) (record { numbered = refl; x-written = refl; multipliers-written = refl })
 
 returns-3 : tie.Need-returns-3
-unfolding number xOr multipliersOr answer
-returns-3 c = rw (c .enum-told3 .given .1) (refl, (refl, refl))
+unfolding number xOr multipliersOr
+returns-3 c = rw (c .enum-told3 .given .1, answer-nonFinite) (record { numbered = refl; x-written = refl; multipliers-written = refl })
 
 returns-4 : tie.Need-returns-4
-unfolding number xOr multipliersOr answer
-returns-4 c = rw (c .enum-told4 .given .1) (refl, (refl, refl))
+unfolding number xOr multipliersOr
+returns-4 c = rw (c .enum-told4 .given .1, answer-singular) (record { numbered = refl; x-written = refl; multipliers-written = refl })
 
 pub write-spec : {M : Type 1} → statement M
 write-spec =

@@ -1,47 +1,51 @@
-use Rattle.folds.specs.Kit.{_≤_, _*_, needs, pick}
-use Rattle.folds.specs.Cell.{area}
-use Rattle.solution.specs.Solution.{solutionOf, answer}
+use Rattle.folds.specs.Kit.{_∙_, needs, pick}
+use Rattle.solution.specs.Laws.{solution-nonFinite, solution-singular}
 use Rattle.noisy_kkt.specs.NoisyKkt.{withScale, solveNoisyKkt}
 use Rattle.noisy_kkt.proofs.solve_noisy_kkt.Statement.{statement}
 use Rattle.noisy_kkt.proofs.solve_noisy_kkt.Tie as tie
 
-square-le : (c : tie.Start) → c .args .n * c .args .n ≤ 1024
-square-le c = area (c .pre .0) (c .pre .0)
-
-finite-requires : tie.Need-finite-requires
-finite-requires c κs = let s = c .before .before .before .before in (square-le s, s .pre .2, s .pre .3)
-
-solve-by-requires : tie.Need-solve-by-requires
-solve-by-requires c κs =
-    let s = c .before .before .before .before .before .before .before .before .before .before in
-    let p = s .pre in (p .0, p .1, square-le s, area (p .0) (p .1), p .2, p .3, p .4, p .5)
+abbrev start : tie.At-match-keys1 → tie.Start
+start c = c .before .before .before .before .before .before .before .before .before .before .before .before .before .before .before .before .before
 
 returns : tie.Need-returns
 unfolding solveNoisyKkt withScale pick
 returns c =
-    let b4 = c .before .before .before .before in
-    rw (← b4 .before .before .finite .ensures, b4 .before .if1 .taken, ← b4 .k-scale .ensures, c .before .before .scale .given .1) (c .solve-by .ensures)
+    let u = c .before .before .before .before .before .before .before .before .before in
+    let s = u .before .before .before .before .before .before .before .before .before in
+    let t = s .before .before .before .before .before .before .before .before .before .before .before in
+    let k = t .before .before in
+    rw (← k .before .before .finite .ensures, k .before .if1 .taken, ← k .k-scale .ensures, t .scale .given .1) (s .solve-by .ensures)
 
 returns-2 : tie.Need-returns-2
-unfolding solveNoisyKkt withScale pick solutionOf answer
+unfolding solveNoisyKkt withScale pick
 returns-2 c =
-    let b3 = c .before .before .before in
-    rw (← b3 .before .before .finite .ensures, b3 .before .if1 .taken, ← b3 .k-scale .ensures, c .before .enum-told .given .1, c .refused .ensures)
+    let k = c .before .before .before in
+    solution-singular _ _ _ (c .refused .ensures)
+    ∙ rw (← k .before .before .finite .ensures, k .before .if1 .taken, ← k .k-scale .ensures, c .before .enum-told .given .1)
 
 returns-3 : tie.Need-returns-3
-unfolding solveNoisyKkt pick solutionOf answer
-returns-3 c = rw (← c .before .before .finite .ensures, c .before .if1 .left, c .refused2 .ensures)
+unfolding solveNoisyKkt pick
+returns-3 c = solution-nonFinite _ _ _ (c .refused2 .ensures) ∙ rw (← c .before .before .finite .ensures, c .before .if1 .left)
 
 pub solve-noisy-kkt-spec : {M : Type 1} → statement M
 solve-noisy-kkt-spec =
     tie.close
     (tie.spec
-    finite-requires
+    (λ c κs. search needs)  -- finite-requires
     (λ c κs. search needs)  -- k-scale-requires
     (λ c. search needs)  -- enum-known-scale
-    solve-by-requires
+    (λ c κs. start (c .before .before .before .before .before .before .before .before .before .before .before) .pre)  -- solve-by-requires
     (λ c. search needs)  -- enum-told
     (λ c κs. search needs)  -- refused-requires
+    (λ c. search needs)  -- same-length
+    (λ c. search needs)  -- same-length-2
+    (λ c. search needs)  -- same-length-3
+    (λ c. search needs)  -- same-length-4
+    (λ c. search needs)  -- same-length-5
+    (λ c. search needs)  -- same-length-6
+    (λ c. search needs)  -- same-length-7
+    (λ c. search needs)  -- same-length-8
+    (λ c. search needs)  -- same-length-9
     returns
     returns-2
     (λ c κs. search needs)  -- refused-requires-2

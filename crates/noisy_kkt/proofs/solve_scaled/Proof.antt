@@ -1,101 +1,124 @@
-use Rattle.folds.specs.Kit.{ℕ, _≡_, _≤_, _-_, _*_, sym, _∙_, arith, length, needs}
-use Rattle.constraints.specs.Constraints.{constraintsOf}
-use Rattle.folds.specs.Cell.{area}
-use lib.Seq.{length-take-le, getD-take}
+use Rattle.folds.specs.Kit.{_≡_, _≤_, _-_, _*_, refl, sym, _∙_, arith, length, needs}
+use lib.Seq.{length-take-le}
+use native.Mathlib.Nat.{le-trans}
+use Rattle.pivoting.specs.Laws.{taken-below}
+use Rattle.constraints.specs.Laws.{new-parts}
+use Rattle.scaled.specs.System.{square-fits, entries-fits}
 use Rattle.noisy_kkt.specs.NoisyKkt.{solveScaled}
+use Rattle.noisy_kkt.specs.Room.{rows-fit, columns-fit, range-fits, null-fits}
 use Rattle.noisy_kkt.proofs.solve_scaled.Statement.{statement}
 use Rattle.noisy_kkt.proofs.solve_scaled.Tie as tie
 
-abbrev rank : tie.After-new → ℕ
-rank c = c .new .result .pivots .rank
+abbrev start : tie.After-new → tie.Start
+start c = c .before .before .before .before .before .before .before .before .before .before .before .before .before .before .before .before .before
 
-abbrev n : tie.After-new → ℕ
-n c = c .before .before .before .before .before .args .n
+abbrev new-at : tie.After-smaller-of → tie.After-new
+new-at c = c .before .before .before .before .before .before .before .before .before .before .before .before
 
-rank-n : (c : tie.After-new) → rank c ≤ n c
-rank-n c = omega (arith, c .new .ensures .1 .few)
+new-requires : tie.Need-new-requires
+new-requires c κs =
+    let s = c .before .before .before .before .before .before .before .before .before .before .before .before .before .before .before .before in
+    let a = s .args in
+    let p = s .pre in (
+      p .0 .e-holds,
+      p .0 .few,
+      p .0 .columns,
+      p .1 .left-room,
+      le-trans (rows-fit (a .n) (a .m) refl) (p .1 .coefficients-room),
+      le-trans (columns-fit (a .n) (a .m)) (p .1 .range-room),
+      p .2 .q-room,
+      p .2 .null-room,
+    )
 
-rank-24 : (c : tie.After-new) → rank c ≤ 24
-rank-24 c = omega (arith, c .new .ensures .1 .few)
+-- what counts of Y, Z and T is not larger than K or E
+y-fits : (c : tie.After-new) → start c .args .n * c .new .result .rank ≤ start c .args .n * start c .args .m
+y-fits c = range-fits (start c .args .n) (start c .args .m) (c .new .ensures .1 .few)
 
-y-le : (c : tie.After-new) → n c * rank c ≤ 768
-y-le c = area {x = 32} {y = 24} (omega arith) (rank-24 c)
+z-fits : (c : tie.After-new) → start c .args .n * (start c .args .n - c .new .result .rank) ≤ start c .args .n * start c .args .n
+z-fits c = null-fits (start c .args .n) (c .new .result .rank)
 
-z-le : (c : tie.After-new) → n c * (n c - rank c) ≤ 1024
-z-le c = area {x = 32} {y = 32} (omega arith) (omega arith)
+t-fits : (c : tie.After-smaller-of) → c .smaller-of .result * start (new-at c) .args .m ≤ start (new-at c) .args .n * start (new-at c) .args .m
+t-fits c = let a = start (new-at c) .args in rows-fit (a .n) (a .m) (c .smaller-of .ensures)
 
-lines-le : (c : tie.After-new) → (n c - rank c) * n c ≤ 1024
-lines-le c = area {x = 32} {y = 32} (omega arith) (omega arith)
-
-square-le : (c : tie.After-new) → (n c - rank c) * (n c - rank c) ≤ 1024
-square-le c = area {x = 32} {y = 32} (omega arith) (omega arith)
-
-range-long : (c : tie.After-new) → length (c .new .result .range) ≡ 768
-range-long c = search needs
-
-null-long : (c : tie.After-new) → length (c .new .result .null) ≡ 1024
-null-long c = search needs
-
-coefficients-long : (c : tie.After-new) → length (c .new .result .coefficients) ≡ 576
-coefficients-long c = search needs
-
-column-long : (c : tie.After-new) → length (c .new .result .pivots .column) ≡ 24
+column-long : (c : tie.After-new) → length (c .new .result .column) ≡ 24
 column-long c = search needs
 
-t-le : (c : tie.After-smaller-of) → c .smaller-of .result * c .before .before .before .before .before .before .before .before .before .before .before .args .m ≤ 576
-t-le c = area {x = 24} {y = 24} (omega arith) (omega arith)
-
-array-share-prefix-range : tie.Need-array-share-prefix-range
-array-share-prefix-range c = let b = c .before .before .before .before .before .before in omega (arith, range-long b, y-le b)
-
-array-share-prefix-null : tie.Need-array-share-prefix-null
-array-share-prefix-null c = let b = c .before .before .before .before .before .before .before in omega (arith, null-long b, z-le b)
-
-array-share-prefix-coefficients : tie.Need-array-share-prefix-coefficients
-array-share-prefix-coefficients c = omega (arith, coefficients-long (c .before .before .before .before .before .before .before .before), t-le (c .before .before))
-
-array-share-prefix-column : tie.Need-array-share-prefix-column
-array-share-prefix-column c = let b = c .before .before .before .before .before .before .before .before .before in omega (arith, column-long b, rank-24 b)
+slice-reshare-prefix-solve-over : tie.Need-slice-reshare-prefix-solve-over
+slice-reshare-prefix-solve-over c = omega (arith, y-fits (new-at c), start (new-at c) .pre .1 .range-room)
 
 slice-aggregate-solve-over : tie.Need-slice-aggregate-solve-over
-slice-aggregate-solve-over c = sym (length-take-le _ _ (array-share-prefix-range (c .before)))
+slice-aggregate-solve-over c = sym (length-take-le _ _ (slice-reshare-prefix-solve-over (c .before)))
+
+slice-reshare-prefix-solve-over-2 : tie.Need-slice-reshare-prefix-solve-over-2
+slice-reshare-prefix-solve-over-2 c = omega (arith, z-fits (new-at (c .before)), start (new-at (c .before)) .pre .2 .null-room)
 
 slice-aggregate-solve-over-2 : tie.Need-slice-aggregate-solve-over-2
-slice-aggregate-solve-over-2 c = sym (length-take-le _ _ (array-share-prefix-null (c .before)))
+slice-aggregate-solve-over-2 c = sym (length-take-le _ _ (slice-reshare-prefix-solve-over-2 (c .before)))
+
+slice-reshare-prefix-solve-over-3 : tie.Need-slice-reshare-prefix-solve-over-3
+slice-reshare-prefix-solve-over-3 c = omega (arith, t-fits (c .before .before), start (new-at (c .before .before)) .pre .1 .coefficients-room)
 
 slice-aggregate-solve-over-3 : tie.Need-slice-aggregate-solve-over-3
-slice-aggregate-solve-over-3 c = sym (length-take-le _ _ (array-share-prefix-coefficients (c .before)))
+slice-aggregate-solve-over-3 c = sym (length-take-le _ _ (slice-reshare-prefix-solve-over-3 (c .before)))
+
+array-share-prefix-column : tie.Need-array-share-prefix-column
+array-share-prefix-column c =
+    let r = new-at (c .before .before .before) in omega (arith, column-long r, r .new .ensures .1 .few, start r .pre .0 .columns)
 
 slice-aggregate-solve-over-4 : tie.Need-slice-aggregate-solve-over-4
 slice-aggregate-solve-over-4 c = sym (length-take-le _ _ (array-share-prefix-column (c .before)))
 
 solve-over-requires : tie.Need-solve-over-requires
 solve-over-requires c κs =
-    let b = c .before .before .before .before .before .before .before .before .before .before in
-    let p = b .before .before .before .before .before .pre in
-    (p .0, p .1, p .2, p .3, p .4, p .5, p .6, p .7, rank-n b, b .new .ensures .1 .few, lines-le b, square-le b, omega (arith, slice-aggregate-solve-over (c .before .before .before)), omega (arith, slice-aggregate-solve-over-2 (c .before .before)), rw (← c .before .before .before .before .smaller-of .ensures) (omega (arith, slice-aggregate-solve-over-3 (c .before))), omega (arith, slice-aggregate-solve-over-4 c), λ i l. rw (getD-take _ _ i _ l) (b .new .ensures .1 .columns i l))
+    let s = c .before .before .before .before .before .before .before in
+    let r = new-at s in
+    let p = start r .pre in (
+      p .0,
+      r .new .ensures .1 .few,
+      omega (arith, slice-aggregate-solve-over (c .before .before .before .before .before .before)),
+      omega (arith, slice-aggregate-solve-over-2 (c .before .before .before .before .before)),
+      rw (← s .smaller-of .ensures) (omega (arith, slice-aggregate-solve-over-3 (c .before .before .before .before))),
+      omega (arith, slice-aggregate-solve-over-4 (c .before .before .before)),
+      taken-below (r .new .ensures .1),
+      omega (arith, p .2 .q-room),
+      omega (arith, p .2 .h-room),
+      omega (arith, p .2 .vectors-room),
+    )
 
 returns : tie.Need-returns
-unfolding solveScaled constraintsOf
-returns c = c .solve-over .ensures ∙ rw (c .before .before .before .before .before .smaller-of .ensures, ← c .before .before .before .before .before .before .before .before .before .before .before .new .ensures .0)
+unfolding solveScaled
+returns c =
+    let o = c .before .before .before .before .before .before in
+    let s = o .before .before .before .before .before .before .before .before in
+    o .solve-over .ensures ∙ rw (s .smaller-of .ensures, new-parts _ _ _ _ _ _ _ (new-at s .new .ensures .0))
 
 pub solve-scaled-spec : {M : Type 1} → statement M
 solve-scaled-spec =
     tie.close
     (tie.spec
-    (λ c κs. search needs)  -- new-requires
-    (λ c. omega (arith, y-le (c .before .before .before .before .before)))  -- mul-y
-    (λ c. omega (arith, rank-n (c .before .before .before .before .before)))  -- sub-z
-    (λ c. omega (arith, z-le (c .before .before .before .before .before)))  -- mul-z
+    new-requires
+    (λ c. let r = c .before .before .before .before .before .before .before .before .before .before .before in
+    omega (arith, y-fits r, entries-fits (start r .pre .0)))  -- mul-y
+    (λ c. let r = c .before .before .before .before .before .before .before .before .before .before .before in
+    omega (arith, r .new .ensures .1 .few))  -- sub-z
+    (λ c. let r = c .before .before .before .before .before .before .before .before .before .before .before in
+    omega (arith, z-fits r, square-fits (start r .pre .0)))  -- mul-z
     (λ c κs. search needs)  -- smaller-of-requires
-    (λ c. omega (arith, t-le c))  -- mul-t
-    array-share-prefix-range
+    (λ c. omega (arith, t-fits c, entries-fits (start (new-at c) .pre .0)))  -- mul-t
+    slice-reshare-prefix-solve-over
     slice-aggregate-solve-over
-    array-share-prefix-null
+    slice-reshare-prefix-solve-over-2
     slice-aggregate-solve-over-2
-    array-share-prefix-coefficients
+    slice-reshare-prefix-solve-over-3
     slice-aggregate-solve-over-3
     array-share-prefix-column
     slice-aggregate-solve-over-4
     solve-over-requires
+    (λ c. search needs)  -- same-length
+    (λ c. search needs)  -- same-length-2
+    (λ c. search needs)  -- same-length-3
+    (λ c. search needs)  -- same-length-4
+    (λ c. search needs)  -- same-length-5
+    (λ c. search needs)  -- same-length-6
+    (λ c. search needs)  -- same-length-7
     returns)

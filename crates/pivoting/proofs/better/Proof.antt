@@ -1,4 +1,4 @@
-use Rattle.folds.specs.Kit.{kit, pick}
+use Rattle.folds.specs.Kit.{kit, refl, sym, _∙_, pick-true, pick-false}
 use Rattle.pivoting.specs.Pivoting.{better}
 use Rattle.pivoting.proofs.better.Statement.{statement}
 use Rattle.pivoting.proofs.better.Tie as tie
@@ -8,12 +8,12 @@ unfolding better
 returns c = rw (c .enum-told .given .1)
 
 returns-2 : tie.Need-returns-2
-unfolding better pick
-returns-2 c = rw (c .before .before .before .best .given .1, ← c .before .total-less .ensures, c .if1 .taken)
+unfolding better
+returns-2 c = rw (c .before .before .before .best .given .1) (pick-true _ _ (sym (c .before .total-less .ensures) ∙ c .if1 .taken) refl)
 
 returns-3 : tie.Need-returns-3
-unfolding better pick
-returns-3 c = rw (c .before .before .before .best .given .1, ← c .before .total-less .ensures, c .if1 .left)
+unfolding better
+returns-3 c = rw (c .before .before .before .best .given .1) (pick-false _ _ (sym (c .before .total-less .ensures) ∙ c .if1 .left) refl)
 
 pub better-spec : {M : Type 1} → statement M
 better-spec =

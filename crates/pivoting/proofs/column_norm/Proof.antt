@@ -1,7 +1,6 @@
 use Rattle.folds.specs.Kit.{arith, kit}
+use Rattle.matrix.specs.Laws.{length-column}
 use Rattle.pivoting.specs.Pivoting.{columnNorm}
-use Rattle.matrix.specs.Matrix.{column}
-use Rattle.pivoting.specs.Laws.{length-column}
 use Rattle.pivoting.proofs.column_norm.Statement.{statement}
 use Rattle.pivoting.proofs.column_norm.Tie as tie
 

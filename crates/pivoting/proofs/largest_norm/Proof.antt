@@ -11,6 +11,10 @@ Inv-loop e n m s₀ j₀ s j = (j ≤ m) × (s ≡ fold j (λ k x. fmax x (colum
 abbrev μ-loop : tie.MeasureT-loop
 μ-loop e n m s₀ j₀ s j = m - j
 
+loop-again : tie.Need-loop-again Inv-loop μ-loop
+loop-again c =
+    (omega arith, fold-call _ _ _ (c .before .before .before .loop .inv .1) (rw (c .max .ensures, c .before .column-norm .ensures)))
+
 returns : tie.Need-returns Inv-loop μ-loop
 unfolding largestNorm
 returns c = search kit
@@ -24,5 +28,5 @@ largest-norm-spec =
     (λ c κs. search kit)  -- max-requires
     (λ c. search kit)  -- add-j
     (λ c. search kit)  -- loop-less
-    (λ c. (omega arith, fold-call _ _ _ (c .before .before .before .loop .inv .1) (rw (c .max .ensures, c .before .column-norm .ensures))))  -- loop-again
+    loop-again
     returns)

@@ -1,6 +1,7 @@
-use Rattle.folds.specs.Kit.{_≡_, _-_, _≤_, arith, length, fold-call, kit}
+use Rattle.folds.specs.Kit.{_≡_, _-_, _≤_, arith, length, kit}
 use Rattle.arith.specs.Float.{at}
 use Rattle.matrix.specs.Matrix.{putColumn}
+use Rattle.matrix.specs.Laws.{column-kit, column-call}
 use Rattle.pivoting.proofs.put_column.Statement.{statement}
 use Rattle.pivoting.proofs.put_column.Tie as tie
 
@@ -10,23 +11,16 @@ Inv-loop a₀ n m j y i₀ a i = (i ≤ n) × (length a ≡ length a₀) × (a �
 abbrev μ-loop : tie.MeasureT-loop
 μ-loop a₀ n m j y i₀ a i = n - i
 
-loop-holds : tie.Need-loop-holds Inv-loop μ-loop
-unfolding putColumn
-loop-holds c = search kit
-
 loop-again : tie.Need-loop-again Inv-loop μ-loop
-unfolding putColumn
-loop-again c = (omega arith, omega arith, fold-call _ _ _ (c .before .before .before .before .before .before .loop .inv .2) (c .before .before .put .ensures))
-
-returns : tie.Need-returns Inv-loop μ-loop
-unfolding putColumn
-returns c = search kit
+loop-again c =
+    let inv = c .before .before .before .before .before .before .loop .inv in
+    (omega arith, omega arith, column-call _ _ _ _ _ (inv .2) (c .before .before .put .ensures))
 
 pub put-column-spec : {M : Type 1} → statement M
 put-column-spec =
     tie.close
     (tie.spec Inv-loop μ-loop
-    loop-holds
+    (λ c. search column-kit)  -- loop-holds
     (λ c. search kit)  -- mul-put
     (λ c. search kit)  -- shared-slice-read-put
     (λ c κs. search kit)  -- put-requires
@@ -34,4 +28,4 @@ put-column-spec =
     (λ c. search kit)  -- loop-less
     loop-again
     (λ c. search kit)  -- same-length
-    returns)
+    (λ c. search column-kit))  -- returns

@@ -5,10 +5,18 @@ use Rattle.pivoting.proofs.remove_all.Statement.{statement}
 use Rattle.pivoting.proofs.remove_all.Tie as tie
 
 abbrev Inv-loop : tie.InvT-loop
-Inv-loop left₀ coefficients₀ n m p row y remaining l₀ left coefficients l = (l ≤ m) × (length left ≡ length left₀) × (length coefficients ≡ length coefficients₀) × (two left coefficients ≡ fold l (removeOne n p row y remaining) (two left₀ coefficients₀))
+Inv-loop left₀ coefficients₀ n m p row y remaining l₀ left coefficients l =
+    (l ≤ m) × (length left ≡ length left₀) × (length coefficients ≡ length coefficients₀) ×
+    (two left coefficients ≡ fold l (removeOne n p row y remaining) (two left₀ coefficients₀))
 
 abbrev μ-loop : tie.MeasureT-loop
 μ-loop left₀ coefficients₀ n m p row y remaining l₀ left coefficients l = m - l
+
+loop-again : tie.Need-loop-again Inv-loop μ-loop
+loop-again c =
+    let b4 = c .before .before .before .before in
+    let inv = b4 .before .before .before .before .loop .inv in
+    (omega arith, omega arith, omega arith, fold-call _ _ _ (inv .3) (b4 .remove-one .ensures))
 
 returns : tie.Need-returns Inv-loop μ-loop
 unfolding removeAll
@@ -22,7 +30,7 @@ remove-all-spec =
     (λ c κs. search kit)  -- remove-one-requires
     (λ c. search kit)  -- add-l
     (λ c. search kit)  -- loop-less
-    (λ c. let b4 = c .before .before .before .before in let b8 = b4 .before .before .before .before in (omega arith, omega arith, omega arith, fold-call _ _ _ (b8 .loop .inv .3) (b4 .remove-one .ensures)))  -- loop-again
+    loop-again
     (λ c. search kit)  -- same-length
     (λ c. search kit)  -- same-length-2
     returns)

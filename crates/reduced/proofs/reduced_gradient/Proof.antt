@@ -1,4 +1,4 @@
-use Rattle.folds.specs.Kit.{_≡_, _≤_, sym, arith, length, needs}
+use Rattle.folds.specs.Kit.{sym, arith, length, needs}
 use lib.Seq.{length-take-le}
 use Rattle.reduced.specs.Reduced.{reducedGradient}
 use Rattle.reduced.proofs.reduced_gradient.Statement.{statement}

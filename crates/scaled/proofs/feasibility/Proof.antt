@@ -1,4 +1,4 @@
-use Rattle.folds.specs.Kit.{_≡_, _≤_, sym, arith, length, needs}
+use Rattle.folds.specs.Kit.{sym, arith, length, needs}
 use lib.Seq.{length-take-le}
 use Rattle.scaled.specs.Scaled.{feasibility}
 use Rattle.scaled.proofs.feasibility.Statement.{statement}
@@ -30,4 +30,14 @@ unfolding feasibility
 returns c = rw (c .scaled-norm .ensures, c .before .before .sub .ensures, c .before .before .before .before .tr-mul-vec .ensures)
 
 pub feasibility-spec : {M : Type 1} → statement M
-feasibility-spec = tie.close (tie.spec tr-mul-vec-requires array-share-prefix-ex slice-aggregate-sub sub-requires array-share-prefix-left slice-aggregate-scaled-norm scaled-norm-requires returns)
+feasibility-spec =
+    tie.close
+    (tie.spec
+    tr-mul-vec-requires
+    array-share-prefix-ex
+    slice-aggregate-sub
+    sub-requires
+    array-share-prefix-left
+    slice-aggregate-scaled-norm
+    scaled-norm-requires
+    returns)

@@ -1,13 +1,17 @@
-use Rattle.folds.specs.Kit.{needs, taken-tabM}
-use Rattle.scaled.specs.Scaled.{scaledE}
+use Rattle.folds.specs.Kit.{_∙_, needs}
+use Rattle.vector.specs.Laws.{length-copy}
+use Rattle.matrix.specs.InPlace.{columns-divided, columnsDivided-copy}
 use Rattle.scaled.proofs.scaled_e.Statement.{statement}
 use Rattle.scaled.proofs.scaled_e.Tie as tie
 
 pub scaled-e-spec : {M : Type 1} → statement M
-unfolding scaledE
 scaled-e-spec =
     tie.close
     (tie.spec
-    (λ c. search needs)  -- slice-aggregate-write-e
-    (λ c κs. search needs)  -- write-e-requires
-    (λ c. taken-tabM _ _ _ _ (c .before .write-e .ensures)))  -- returns
+    (λ c. search needs)  -- mul-copy
+    (λ c κs. search needs)  -- copy-requires
+    (λ c κs. search needs)  -- divide-columns-requires
+    (λ c. search needs)  -- same-length
+    (λ c. let p = c .before .before in
+    columns-divided _ _ _ _ _ (length-copy _ _) (p .before .before .before .before .copy .ensures) (p .divide-columns .ensures)
+    ∙ rw columnsDivided-copy))  -- returns

@@ -16,4 +16,13 @@ size-spec =
     (λ c κs. search needs)  -- scaled-norm-requires-4
     (λ c κs. search needs)  -- scaled-norm-requires-5
     (λ c κs. search needs)  -- scaled-norm-requires-6
-    (λ c. rw (c .scaled-norm6 .ensures, c .before .scaled-norm5 .ensures, c .before .before .scaled-norm4 .ensures, c .before .before .before .scaled-norm3 .ensures, c .before .before .before .before .scaled-norm2 .ensures, c .before .before .before .before .before .scaled-norm .ensures)))  -- returns
+    (λ c. let b = c .before in
+    let l = b .before .before in
+    rw (
+      c .scaled-norm6 .ensures,
+      b .scaled-norm5 .ensures,
+      b .before .scaled-norm4 .ensures,
+      l .scaled-norm3 .ensures,
+      l .before .scaled-norm2 .ensures,
+      l .before .before .scaled-norm .ensures,
+    )))  -- returns

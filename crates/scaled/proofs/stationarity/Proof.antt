@@ -1,4 +1,4 @@
-use Rattle.folds.specs.Kit.{_≡_, _≤_, sym, arith, length, needs}
+use Rattle.folds.specs.Kit.{sym, arith, length, needs}
 use lib.Seq.{length-take-le}
 use Rattle.scaled.specs.Scaled.{stationarity}
 use Rattle.scaled.proofs.stationarity.Statement.{statement}
@@ -45,7 +45,26 @@ scaled-norm-requires c κs = omega (arith, slice-aggregate-scaled-norm c)
 
 returns : tie.Need-returns
 unfolding stationarity
-returns c = rw (c .scaled-norm .ensures, c .before .before .sub .ensures, c .before .before .before .before .add .ensures, c .before .before .before .before .before .before .before .mul-vec2 .ensures, c .before .before .before .before .before .before .before .before .mul-vec .ensures)
+returns c =
+    let s = c .before .before .before .before in
+    let k = s .before .before .before .before in
+    rw (c .scaled-norm .ensures, c .before .before .sub .ensures, s .add .ensures, s .before .before .before .mul-vec2 .ensures, k .mul-vec .ensures)
 
 pub stationarity-spec : {M : Type 1} → statement M
-stationarity-spec = tie.close (tie.spec mul-vec-requires mul-vec-requires-2 array-share-prefix-kx slice-aggregate-add array-share-prefix-el slice-aggregate-add-2 add-requires array-share-prefix-sum slice-aggregate-sub sub-requires array-share-prefix-left slice-aggregate-scaled-norm scaled-norm-requires returns)
+stationarity-spec =
+    tie.close
+    (tie.spec
+    mul-vec-requires
+    mul-vec-requires-2
+    array-share-prefix-kx
+    slice-aggregate-add
+    array-share-prefix-el
+    slice-aggregate-add-2
+    add-requires
+    array-share-prefix-sum
+    slice-aggregate-sub
+    sub-requires
+    array-share-prefix-left
+    slice-aggregate-scaled-norm
+    scaled-norm-requires
+    returns)

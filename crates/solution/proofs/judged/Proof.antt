@@ -1,6 +1,7 @@
-use Rattle.folds.specs.Kit.{_≡_, _≤_, sym, arith, length, needs, pick}
+use Rattle.folds.specs.Kit.{refl, sym, _∙_, arith, length, needs, pick}
 use lib.Seq.{length-take-le}
-use Rattle.solution.specs.Solution.{solutionOf, answer, judge, judged}
+use Rattle.solution.specs.Solution.{judge, judged}
+use Rattle.solution.specs.Laws.{solution-solved, solution-noOptimum, solution-singular}
 use Rattle.solution.proofs.judged.Statement.{statement}
 use Rattle.solution.proofs.judged.Tie as tie
 
@@ -17,7 +18,11 @@ slice-aggregate-kkt-residual-2 : tie.Need-slice-aggregate-kkt-residual-2
 slice-aggregate-kkt-residual-2 c = sym (length-take-le _ _ (omega arith))
 
 kkt-residual-requires : tie.Need-kkt-residual-requires
-kkt-residual-requires c κs = let p = c .before .before .before .before .before .before .pre in (p .0, p .1, p .2, p .3, p .4, p .5, p .6, p .7, omega (arith, slice-aggregate-kkt-residual (c .before)), omega (arith, slice-aggregate-kkt-residual-2 c))
+kkt-residual-requires c κs = (
+  c .before .before .before .before .before .before .pre,
+  omega (arith, slice-aggregate-kkt-residual (c .before)),
+  omega (arith, slice-aggregate-kkt-residual-2 c),
+)
 
 within-rounding-requires : tie.Need-within-rounding-requires
 within-rounding-requires c κs = search needs
@@ -29,8 +34,11 @@ refused-requires : tie.Need-refused-requires
 refused-requires c κs = search needs
 
 returns-2 : tie.Need-returns-2
-unfolding solutionOf answer judge judged
-returns-2 c = rw (← c .before .before .before .before .kkt-residual .ensures, ← c .before .before .before .within-rounding .ensures, c .before .enum-told .given .1, c .refused .ensures)
+unfolding judge judged
+returns-2 c =
+    let t = c .before .before .before in
+    solution-singular _ _ _ (c .refused .ensures)
+    ∙ rw (← t .before .kkt-residual .ensures, ← t .within-rounding .ensures, c .before .enum-told .given .1)
 
 enum-told-2 : tie.Need-enum-told-2
 enum-told-2 c = search needs
@@ -39,8 +47,11 @@ refused-requires-2 : tie.Need-refused-requires-2
 refused-requires-2 c κs = search needs
 
 returns-3 : tie.Need-returns-3
-unfolding solutionOf answer judge judged
-returns-3 c = rw (← c .before .before .before .before .kkt-residual .ensures, ← c .before .before .before .within-rounding .ensures, c .before .enum-told2 .given .1, c .refused2 .ensures)
+unfolding judge judged
+returns-3 c =
+    let t = c .before .before .before in
+    solution-noOptimum _ _ _ (c .refused2 .ensures)
+    ∙ rw (← t .before .kkt-residual .ensures, ← t .within-rounding .ensures, c .before .enum-told2 .given .1)
 
 enum-told-3 : tie.Need-enum-told-3
 enum-told-3 c = search needs
@@ -55,15 +66,27 @@ all-finite-requires : tie.Need-all-finite-requires
 all-finite-requires c κs = omega (arith, slice-aggregate-all-finite c)
 
 returns : tie.Need-returns
-unfolding solutionOf answer judge judged pick
-returns c = rw (← c .before .before .before .before .before .before .kkt-residual .ensures, ← c .before .before .before .before .before .within-rounding .ensures, c .before .before .before .enum-told3 .given .1, ← c .before .all-finite .ensures, c .if1 .taken)
+unfolding judge judged pick
+returns c =
+    let t = c .before .before .before .before .before in
+    let f = c .before .before .before .enum-told3 .given .1 in
+    solution-solved _ _ _ refl
+    ∙ rw (← t .before .kkt-residual .ensures, ← t .within-rounding .ensures, f, ← c .before .all-finite .ensures, c .if1 .taken)
 
 refused-requires-3 : tie.Need-refused-requires-3
 refused-requires-3 c κs = search needs
 
 returns-4 : tie.Need-returns-4
-unfolding solutionOf answer judge judged pick
-returns-4 c = rw (← c .before .before .before .before .before .before .before .kkt-residual .ensures, ← c .before .before .before .before .before .before .within-rounding .ensures, c .before .before .before .before .enum-told3 .given .1, ← c .before .before .all-finite .ensures, c .before .if1 .left, c .refused3 .ensures)
+unfolding judge judged pick
+returns-4 c =
+    let t = c .before .before .before .before .before .before in
+    let f = c .before .before .before .before .enum-told3 .given .1 in
+    solution-singular _ _ _ (c .refused3 .ensures)
+    ∙ rw (← t .before .kkt-residual .ensures, ← t .within-rounding .ensures, f, ← c .before .before .all-finite .ensures, c .before .if1 .left)
 
 pub judged-spec : {M : Type 1} → statement M
-judged-spec = tie.close (tie.spec array-share-prefix-x slice-aggregate-kkt-residual array-share-prefix-multipliers slice-aggregate-kkt-residual-2 kkt-residual-requires within-rounding-requires enum-told refused-requires enum-told-2 refused-requires-2 enum-told-3 array-share-prefix-x-2 slice-aggregate-all-finite all-finite-requires returns refused-requires-3 returns-2 returns-3 returns-4)
+judged-spec =
+    tie.close
+    (tie.spec array-share-prefix-x slice-aggregate-kkt-residual array-share-prefix-multipliers slice-aggregate-kkt-residual-2
+    kkt-residual-requires within-rounding-requires enum-told refused-requires enum-told-2 refused-requires-2 enum-told-3
+    array-share-prefix-x-2 slice-aggregate-all-finite all-finite-requires returns refused-requires-3 returns-2 returns-3 returns-4)

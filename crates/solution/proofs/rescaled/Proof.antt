@@ -1,6 +1,6 @@
-use Rattle.folds.specs.Kit.{_≡_, _≤_, sym, arith, length, needs}
+use Rattle.folds.specs.Kit.{sym, _∙_, arith, length, needs}
 use lib.Seq.{length-take-le}
-use Rattle.solution.specs.Solution.{solutionOf, rescaled-from}
+use Rattle.solution.specs.Laws.{solution-answer, rescaled-answer}
 use Rattle.solution.proofs.rescaled.Statement.{statement}
 use Rattle.solution.proofs.rescaled.Tie as tie
 
@@ -14,8 +14,8 @@ rescaled-multipliers-requires : tie.Need-rescaled-multipliers-requires
 rescaled-multipliers-requires c κs = (omega arith, omega (arith, slice-aggregate-rescaled-multipliers c), omega arith)
 
 returns : tie.Need-returns
-unfolding solutionOf
-returns c = rescaled-from _ _ _ _ _ _ (c .rescaled-multipliers .ensures)
+returns c = solution-answer _ _ _ ∙ rescaled-answer _ _ _ _ _ _ (c .rescaled-multipliers .ensures)
 
 pub rescaled-spec : {M : Type 1} → statement M
-rescaled-spec = tie.close (tie.spec array-share-prefix-multipliers slice-aggregate-rescaled-multipliers rescaled-multipliers-requires returns)
+rescaled-spec =
+    tie.close (tie.spec array-share-prefix-multipliers slice-aggregate-rescaled-multipliers rescaled-multipliers-requires returns)

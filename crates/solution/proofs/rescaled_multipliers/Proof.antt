@@ -1,17 +1,13 @@
-use Rattle.folds.specs.Kit.{needs, taken-tab}
-use Rattle.solution.specs.Solution.{rescaledMultipliers}
+use Rattle.folds.specs.Kit.{needs}
+use Rattle.folds.specs.Tab.{taken-over}
+use Rattle.solution.specs.Laws.{length-rescaledMultipliers}
 use Rattle.solution.proofs.rescaled_multipliers.Statement.{statement}
 use Rattle.solution.proofs.rescaled_multipliers.Tie as tie
 
-slice-aggregate-write-rescaled : tie.Need-slice-aggregate-write-rescaled
-slice-aggregate-write-rescaled c = search needs
-
-write-rescaled-requires : tie.Need-write-rescaled-requires
-write-rescaled-requires c κs = search needs
-
-returns : tie.Need-returns
-unfolding rescaledMultipliers
-returns c = taken-tab _ _ _ (c .before .write-rescaled .ensures)
-
 pub rescaled-multipliers-spec : {M : Type 1} → statement M
-rescaled-multipliers-spec = tie.close (tie.spec slice-aggregate-write-rescaled write-rescaled-requires returns)
+rescaled-multipliers-spec =
+    tie.close
+    (tie.spec
+    (λ c. search needs)  -- slice-aggregate-write-rescaled
+    (λ c κs. search needs)  -- write-rescaled-requires
+    (λ c. taken-over _ _ (length-rescaledMultipliers _ _ _ _) (c .before .write-rescaled .ensures)))  -- returns

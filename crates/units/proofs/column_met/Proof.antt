@@ -12,7 +12,30 @@ column-met-spec =
     (λ c κs. search needs)  -- abs-requires
     (λ c κs. search needs)  -- max-requires
     (λ c κs. search needs)  -- is-finite-requires
-    (λ c. let m = c .before .before .before in rw (← m .before .before .amax .ensures, ← m .before .abs .ensures, ← m .max .ensures, ← c .before .before .is-finite .ensures, c .before .if1 .taken, c .if2 .taken))  -- returns
+    (λ c. let m = c .before .before .before in
+    rw (
+      ← m .before .before .amax .ensures,
+      ← m .before .abs .ensures,
+      ← m .max .ensures,
+      ← c .before .before .is-finite .ensures,
+      c .before .if1 .taken,
+      c .if2 .taken,
+    ))  -- returns
     (λ c κs. search needs)  -- meets-requires
-    (λ c. let m = c .before .before .before .before in rw (← m .before .before .amax .ensures, ← m .before .abs .ensures, ← m .max .ensures, ← c .before .before .before .is-finite .ensures, c .before .before .if1 .taken, c .before .if2 .left) (c .meets .ensures))  -- returns-2
-    (λ c. let m = c .before .before in rw (← m .before .before .amax .ensures, ← m .before .abs .ensures, ← m .max .ensures, ← c .before .is-finite .ensures, c .if1 .left)))  -- returns-3
+    (λ c. let m = c .before .before .before .before in
+    rw (
+      ← m .before .before .amax .ensures,
+      ← m .before .abs .ensures,
+      ← m .max .ensures,
+      ← c .before .before .before .is-finite .ensures,
+      c .before .before .if1 .taken,
+      c .before .if2 .left,
+    ) (c .meets .ensures))  -- returns-2
+    (λ c. let m = c .before .before in
+    rw (
+      ← m .before .before .amax .ensures,
+      ← m .before .abs .ensures,
+      ← m .max .ensures,
+      ← c .before .is-finite .ensures,
+      c .if1 .left,
+    )))  -- returns-3

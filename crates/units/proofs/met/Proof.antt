@@ -1,4 +1,4 @@
-use Rattle.folds.specs.Kit.{_≡_, _≤_, sym, arith, length, needs}
+use Rattle.folds.specs.Kit.{sym, arith, length, needs}
 use lib.Seq.{length-take-le}
 use Rattle.units.specs.Units.{met}
 use Rattle.units.proofs.met.Statement.{statement}
@@ -12,5 +12,6 @@ met-spec =
     (λ c κs. search needs)  -- terms-requires
     (λ c. search needs)  -- array-share-prefix-terms
     (λ c. sym (length-take-le _ _ (omega arith)))  -- slice-aggregate-column-met
-    (λ c κs. omega (arith, length-take-le (c .before .before .before .before .args .n) (c .before .terms .result) (omega arith)))  -- column-met-requires
+    (λ c κs. let a = c .before .before .before .before .args in
+    omega (arith, length-take-le (a .n) (c .before .terms .result) (omega arith)))  -- column-met-requires
     (λ c. rw (c .column-met .ensures, c .before .before .terms .ensures)))  -- returns

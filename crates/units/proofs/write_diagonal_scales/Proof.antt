@@ -20,6 +20,7 @@ write-diagonal-scales-spec =
     (λ c. search over-kit)  -- slice-write-y
     (λ c. search over-kit)  -- add-i
     (λ c. search over-kit)  -- loop-less
-    (λ c. let at = c .before .before .loop in (omega arith, simp length-set (at .inv .1), fold-call _ _ _ (at .inv .2) (rw (c .diagonal-scale .ensures))))  -- loop-again
+    (λ c. let at = c .before .before .loop in
+    (omega arith, simp length-set (at .inv .1), fold-call _ _ _ (at .inv .2) (rw (c .diagonal-scale .ensures))))  -- loop-again
     (λ c. search over-kit)  -- same-length
     (λ c. search over-kit))  -- returns
