@@ -24,7 +24,8 @@ code-pos half (negsuc n) h = absurd (h .le)
 pub code-neg : (half m : ℕ) (z : ℤ) → m ≡ half + half → z <ℤ pos 0 → mag z < half → z +ℤ pos m ≡ pos (code half z)
 unfolding code
 code-neg half m (pos n) e h l = absurd (not-suc-le-zero (ltb→lt n 0 (h .lt)))
-code-neg half m (negsuc n) e h l = ap₂ _+ℤ_ (diff-negsuc n) (diff-pos m) ∙ diff-plus 0 (suc n) m 0 ∙ is-pos (0 + m) (suc n + 0) (half + half - suc n) (omega arith)
+code-neg half m (negsuc n) e h l =
+    ap₂ _+ℤ_ (diff-negsuc n) (diff-pos m) ∙ diff-plus 0 (suc n) m 0 ∙ is-pos (0 + m) (suc n + 0) (half + half - suc n) (omega arith)
 
 -- -1 - z, and what is left of the largest number
 pub flipped : (z : ℤ) → z <ℤ pos 0 → negsuc 0 -ℤ z ≡ pos (mag z)

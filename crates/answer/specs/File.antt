@@ -1,11 +1,12 @@
 -- The answer file. Document 01: "The answer file, in fields of the same form, one of each; bytes of the slice past it keep their values: tag 17,
 -- times (4 bytes each); 18, prices (8 bytes each, signed: anchors, spans, cap); 19, gap (8, signed); 20, passes of the accepted solve (2)."
+use mathlib.Core.Path.{_≡_}
 use mathlib.Core.List.{List, [], _∷_, _++_}
 use Prim.Native.Nat.{ℕ, zero, suc, _+_, _*_, _-_, _/_, _%_}
 use lib.Dec.{leb}
-use lib.ListN.{length, drop}
+use lib.ListN.{length}
 use lib.IntN.{ℤ, pos, negsuc}
-use Rattle.folds.specs.Fold.{pick}
+use Rattle.folds.specs.Fold.{over, pick}
 
 pub record Answer : Type 0 where
   pub times : List ℤ
@@ -50,11 +51,17 @@ file a =
     ++ field 20 (bytes 2 (a .passes))))
 
 -- ---- writing it to a slice o: "8, answer slice too small"; a refusal leaves the slice as it was
-unfoldable pub size : ℕ → ℕ → ℕ
-size times prices = 22 + 4 * times + 8 * prices
-
 unfoldable pub refusal : Answer → List ℕ → ℕ
-refusal a o = pick (leb (size (length (a .times)) (length (a .prices))) (length o)) 0 8
+refusal a o = pick (leb (length (file a)) (length o)) 0 8
 
 unfoldable pub written : Answer → List ℕ → List ℕ
-written a o = pick (leb (size (length (a .times)) (length (a .prices))) (length o)) (file a ++ drop (length (file a)) o) o
+written a o = pick (leb (length (file a)) (length o)) (over (file a) o) o
+
+-- what a call promises of its result r and of the slice, o at entry
+pub record Written (a : Answer) (o : List ℕ) (r : ℕ) (exit : List ℕ) : Type 0 where
+  pub result : r ≡ refusal a o
+  pub slice : exit ≡ written a o
+
+-- the file's length, from its counts
+unfoldable pub fileSize : ℕ → ℕ → ℕ
+fileSize times prices = 22 + 4 * times + 8 * prices

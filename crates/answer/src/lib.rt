@@ -1,10 +1,11 @@
 // The answer file's writer. The file is specs/File.antt; that what is written is read back, specs/Back.antt.
 ghost use mathlib.Core.Path.{_≡_};
 ghost use mathlib.Core.List.{_++_};
-ghost use Prim.Native.Nat.{_+_, _*_, _≤_};
+ghost use Prim.Native.Nat.{_+_, _*_, _≤_, _<_};
 ghost use lib.ListN.{length};
-ghost use Rattle.answer.specs.File.{answerOf, bytes, code, in4, in8, each, field, size, refusal, written};
-ghost use Rattle.answer.specs.Over.{over};
+ghost use Rattle.block.specs.Ranges.{maxWords, maxAnchors, maxSpans};
+ghost use Rattle.answer.specs.File.{answerOf, bytes, code, in4, in8, each, field, fileSize, Written};
+ghost use Rattle.answer.specs.Pasted.{pasted};
 
 // The tags, and the length of a field's header.
 const TIMES: u64 = 17;
@@ -20,7 +21,7 @@ const HEADER: usize = 3;
 // The k low bytes of n, low byte first, at `at`.
 fn put(out: &mut [u8], at: usize, n: u64, k: usize)
     requires { ⌜ at + k ≤ length (now out) ⌝ }
-    ensures { λ _. ⌜ now (out .exit) ≡ over at (bytes k n) (now (out .entry)) ⌝ }
+    ensures { λ _. ⌜ now (out .exit) ≡ pasted at (bytes k n) (now (out .entry)) ⌝ }
 {
     let mut m = n;
     for j in 0..k {
@@ -53,7 +54,7 @@ fn code8(z: i64) -> u64
 // A field's tag and the length of its body.
 fn put_header(out: &mut [u8], at: usize, tag: u64, len: u64)
     requires { ⌜ at + 3 ≤ length (now out) ⌝ }
-    ensures { λ _. ⌜ now (out .exit) ≡ over at (bytes 1 tag ++ bytes 2 len) (now (out .entry)) ⌝ }
+    ensures { λ _. ⌜ now (out .exit) ≡ pasted at (bytes 1 tag ++ bytes 2 len) (now (out .entry)) ⌝ }
 {
     put(out, at, tag, 1);
     put(out, at + 1, len, 2);
@@ -61,7 +62,7 @@ fn put_header(out: &mut [u8], at: usize, tag: u64, len: u64)
 
 fn put_times(out: &mut [u8], at: usize, times: &[i32])
     requires { ⌜ at + 4 * length (now times) ≤ length (now out) ⌝ }
-    ensures { λ _. ⌜ now (out .exit) ≡ over at (each in4 (now (times .entry))) (now (out .entry)) ⌝ }
+    ensures { λ _. ⌜ now (out .exit) ≡ pasted at (each in4 (now (times .entry))) (now (out .entry)) ⌝ }
 {
     let n = times.len();
     for i in 0..n {
@@ -72,7 +73,7 @@ fn put_times(out: &mut [u8], at: usize, times: &[i32])
 
 fn put_prices(out: &mut [u8], at: usize, prices: &[i64])
     requires { ⌜ at + 8 * length (now prices) ≤ length (now out) ⌝ }
-    ensures { λ _. ⌜ now (out .exit) ≡ over at (each in8 (now (prices .entry))) (now (out .entry)) ⌝ }
+    ensures { λ _. ⌜ now (out .exit) ≡ pasted at (each in8 (now (prices .entry))) (now (out .entry)) ⌝ }
 {
     let n = prices.len();
     for k in 0..n {
@@ -84,7 +85,7 @@ fn put_prices(out: &mut [u8], at: usize, prices: &[i64])
 fn times_field(out: &mut [u8], at: usize, times: &[i32])
     requires { ⌜ length (now times) ≤ 32 ⌝ }
     requires { ⌜ at + 3 + 4 * length (now times) ≤ length (now out) ⌝ }
-    ensures { λ _. ⌜ now (out .exit) ≡ over at (field 17 (each in4 (now (times .entry)))) (now (out .entry)) ⌝ }
+    ensures { λ _. ⌜ now (out .exit) ≡ pasted at (field 17 (each in4 (now (times .entry)))) (now (out .entry)) ⌝ }
 {
     let n = 4 * times.len();
     put_header(out, at, TIMES, n as u64);
@@ -94,7 +95,7 @@ fn times_field(out: &mut [u8], at: usize, times: &[i32])
 fn prices_field(out: &mut [u8], at: usize, prices: &[i64])
     requires { ⌜ length (now prices) ≤ 25 ⌝ }
     requires { ⌜ at + 3 + 8 * length (now prices) ≤ length (now out) ⌝ }
-    ensures { λ _. ⌜ now (out .exit) ≡ over at (field 18 (each in8 (now (prices .entry)))) (now (out .entry)) ⌝ }
+    ensures { λ _. ⌜ now (out .exit) ≡ pasted at (field 18 (each in8 (now (prices .entry)))) (now (out .entry)) ⌝ }
 {
     let n = 8 * prices.len();
     put_header(out, at, PRICES, n as u64);
@@ -104,7 +105,7 @@ fn prices_field(out: &mut [u8], at: usize, prices: &[i64])
 // A field of one number of k bytes.
 fn number_field(out: &mut [u8], at: usize, tag: u64, n: u64, k: usize)
     requires { ⌜ at + 3 + k ≤ length (now out) ⌝ }
-    ensures { λ _. ⌜ now (out .exit) ≡ over at (field tag (bytes k n)) (now (out .entry)) ⌝ }
+    ensures { λ _. ⌜ now (out .exit) ≡ pasted at (field tag (bytes k n)) (now (out .entry)) ⌝ }
 {
     put_header(out, at, tag, k as u64);
     put(out, at + HEADER, n, k);
@@ -113,15 +114,15 @@ fn number_field(out: &mut [u8], at: usize, tag: u64, n: u64, k: usize)
 // The length of the answer file of so many times and prices.
 pub fn file_size(times: usize, prices: usize) -> usize
     requires { ⌜ (times ≤ 32) × (prices ≤ 25) ⌝ }
-    ensures { λ r. ⌜ r ≡ size times prices ⌝ }
+    ensures { λ r. ⌜ r ≡ fileSize times prices ⌝ }
 {
     22 + 4 * times + 8 * prices
 }
 
-// Writes the answer file to the front of `out`, whose other bytes are kept; 8 where it is too small, and then all are.
+// Writes the answer file to the front of `out`, whose other bytes are kept; 8 where it is too small, and then all are. Field 20 has two bytes.
 pub fn write(out: &mut [u8], times: &[i32], prices: &[i64], gap: i64, passes: u64) -> u32
-    requires { ⌜ (length (now times) ≤ 32) × (length (now prices) ≤ 25) ⌝ }
-    ensures { λ r. ⌜ (r ≡ refusal (answerOf (now (times .entry)) (now (prices .entry)) gap passes) (now (out .entry))) × (now (out .exit) ≡ written (answerOf (now (times .entry)) (now (prices .entry)) gap passes) (now (out .entry))) ⌝ }
+    requires { ⌜ (length (now times) ≤ maxWords) × (length (now prices) ≤ maxAnchors + maxSpans + 1) × (passes < 65536) ⌝ }
+    ensures { λ r. ⌜ Written (answerOf (now (times .entry)) (now (prices .entry)) gap passes) (now (out .entry)) r (now (out .exit)) ⌝ }
 {
     let t = times.len();
     let p = prices.len();

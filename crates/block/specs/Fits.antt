@@ -1,25 +1,24 @@
 -- Every number on the way to the cost, the moves, the misses and the gap fits signed 64 bits; so does the gap: refusal 15 is never given.
-use mathlib.Core.Path.{_≡_, refl, sym, _∙_, ap}
+use mathlib.Core.Path.{_≡_, _∙_, ap₂}
 use mathlib.Core.List.{List}
 use mathlib.Core.Bool.{Bool, true, false}
-use Prim.Native.Nat.{ℕ, zero, suc, _+_, _*_, _≤_, _<_, zero-le}
+use Prim.Native.Nat.{ℕ, _+_, _*_, _≤_, _<_, zero-le}
 use native.Mathlib.Omega.{arith}
 use native.Mathlib.Nat.{le-trans, le-of-eq, le-refl, mul-le-mul-left}
 use lib.ListN.{length}
-use lib.Dec.{lit≤}
-use lib.IntN.{ℤ, pos, natAbs, _+ℤ_, _-ℤ_, _*ℤ_}
-use lib.Signed.{ltZ, _≤ℤ_}
+use lib.IntN.{ℤ, pos, natAbs, _-ℤ_, _*ℤ_}
+use lib.Signed.{ltZ}
 use mir.Syntax.{w64}
 use mir.Val.{SFits}
-use Rattle.folds.specs.Fold.{fold, pick}
+use Rattle.folds.specs.Fold.{pick}
 use Rattle.ints.specs.Diff.{maxℤ}
-use Rattle.ints.specs.Sum.{Σ, at}
-use Rattle.ints.specs.Bound.{_≼_, _+b_, _-b_, _*b_, pos-b, lit-b, loose, Σ-b, at-b, max-b, sfits}
-use Rattle.ints.specs.SumNat.{Σℕ, Σ-under, Σℕ-le, Σℕ-part, Σℕ-plus, Σℕ-times, Σℕ-const, Σℕ-swap, atℕ, at-under, Σℕ-at}
+use Rattle.ints.specs.Sum.{Σ}
+use Rattle.ints.specs.Bound.{_≼_, _+b_, _-b_, _*b_, pos-b, lit-b, loose, Σ-b, delta-b, max-b, sfits}
+use Rattle.ints.specs.SumNat.{Σℕ, Σ-under, Σℕ-le, Σℕ-part, Σℕ-term, Σℕ-plus, Σℕ-times, Σℕ-by, Σℕ-const, Σℕ-swap, deltaℕ, delta-under, Σℕ-delta}
 use Rattle.block.specs.Block.{Block, Word, Item, Tempo, Anchor, Span, word, tempo, anchor, span, item}
-use Rattle.block.specs.Plan.{time, size, product, sumOf, move, moves, bend, squareOf, cost}
+use Rattle.block.specs.Plan.{time, product, sumOf, move, moves, bend, squareOf, squares, bends}
 use Rattle.block.specs.Keeps.{anchorMiss, outside, spanMiss, coefSize, coefSizes}
-use Rattle.block.specs.Gap.{Prices, price, coefAt, coefOf, slopeOf, g, anchorPart, spanPart, h, line, candidates, least, ownPart, own, words, values, ends, gap}
+use Rattle.block.specs.Gap.{Prices, price, coefAt, coefOf, slopeOf, g, anchorPart, spanPart, h, line, candidates, least, wordGap, wordGapOf, wordGaps, values, ends, gap}
 use Rattle.block.specs.Least.{least-b, candidates-b}
 use Rattle.block.specs.Ranges.{Short, RangedList, RangedWord, RangedTempo, RangedAnchor, RangedSpan, Ranged, Timed, Priced}
 
@@ -30,7 +29,7 @@ module _ {l : List Item} (L : Short l) where
 
   -- each loop's total on the way, at k, and the whole
   pub coefs-b : (i k : ℕ) → k ≤ length l → Σ k (coefAt i l) ≼ 32
-  coefs-b i k h = loose (omega (arith, L .few)) (Σ-b k {a = 8} (coefAt i l) (λ j m. at-b (item l j .word) i (coef-b j (omega arith))))
+  coefs-b i k h = loose (omega (arith, L .few)) (Σ-b k {a = 8} (coefAt i l) (λ j m. delta-b (item l j .word) i (coef-b j (omega arith))))
 
   pub coefOf-b : (i : ℕ) → coefOf i l ≼ 32
   unfolding coefOf
@@ -45,20 +44,22 @@ module _ {l : List Item} (L : Short l) where
 
 module _ {n : ℕ} {l : List Item} (L : RangedList n l) {x : List ℤ} (X : Timed n x) where
   pub time-b : (k : ℕ) → k < length l → time x (item l k .word) ≼ 262144
-  time-b k h = record { size = X .near (item l k .word) (L .named k h) }
+  time-b k h = record { size = X .small (item l k .word) (L .named k h) }
 
   pub products-b : (k : ℕ) → k ≤ length l → Σ k (product l x) ≼ 8388608
-  products-b k h = loose (omega (arith, L .short .few)) (Σ-b k {a = 2097152} (product l x) (λ j m. coef-b (L .short) j (omega arith) *b time-b j (omega arith)))
+  products-b k h =
+      loose (omega (arith, L .short .few))
+      (Σ-b k {a = 2097152} (product l x) (λ j m. coef-b (L .short) j (omega arith) *b time-b j (omega arith)))
 
   pub sumOf-b : sumOf l x ≼ 8388608
   unfolding sumOf
   sumOf-b = products-b (length l) (le-refl (length l))
 
 -- ---- a word
-module _ {w : Word} (W : RangedWord w) {t : ℤ} (near : t ≼ 262144) where
+module _ {w : Word} (W : RangedWord w) {t : ℤ} (small : t ≼ 262144) where
   pub move-b : move w t ≼ 524288
   unfolding move
-  move-b = pos-b ((near -b pos-b (W .key)) .size)
+  move-b = pos-b ((small -b pos-b (W .key)) .size)
 
   pub bend-b : bend w t ≼ 34359214080
   unfolding bend
@@ -66,10 +67,12 @@ module _ {w : Word} (W : RangedWord w) {t : ℤ} (near : t ≼ 262144) where
 
   pub line-b : (s : ℤ) (r : ℕ) {a : ℕ} → s ≼ a → r ≤ 4294967296 → line w s r t ≼ a * 262144 + 4295032831 * 524288
   unfolding line
-  line-b s r a c = a *b near +b (pos-b (W .slope) +b pos-b c) *b move-b
+  line-b s r a c = a *b small +b (pos-b (W .slope) +b pos-b c) *b move-b
 
-pub least-line-b : {w : Word} → RangedWord w → (s : ℤ) (r : ℕ) {a : ℕ} → s ≼ a → r ≤ 4294967296 → least (line w s r) (candidates w) ≼ a * 262144 + 4295032831 * 524288
-least-line-b {w} W s r a c = least-b (line w s r) (candidates w) (λ t m. line-b W (candidates-b w (W .lower) (W .upper) (W .key) t m) s r a c)
+pub least-line-b : {w : Word} → RangedWord w → (s : ℤ) (r : ℕ) {a : ℕ} → s ≼ a → r ≤ 4294967296
+    → least (line w s r) (candidates w) ≼ a * 262144 + 4295032831 * 524288
+least-line-b {w} W s r a c =
+    least-b (line w s r) (candidates w) (λ t m. line-b W (candidates-b w (W .lower) (W .upper) (W .key) t m) s r a c)
 
 -- ---- a tempo term, an anchor, a span
 module _ {n : ℕ} {x : List ℤ} (X : Timed n x) where
@@ -96,7 +99,9 @@ module _ {n : ℕ} {x : List ℤ} (X : Timed n x) where
 
   pub spanMiss-b : {s : Span} → RangedSpan n s → spanMiss s x ≼ 16777216
   unfolding spanMiss outside pick
-  spanMiss-b {s} S = which (ltZ (sumOf (s .list) x) (s .lower)) (low -b sum) (which (ltZ (s .upper) (sumOf (s .list) x)) (sum -b high) (record { size = zero-le }))
+  spanMiss-b {s} S =
+      which (ltZ (sumOf (s .list) x) (s .lower)) (low -b sum)
+      (which (ltZ (s .upper) (sumOf (s .list) x)) (sum -b high) (record { size = zero-le }))
     where
       low : s .lower ≼ 8388608
       low = record { size = S .lower }
@@ -111,60 +116,84 @@ module _ {n : ℕ} {x : List ℤ} (X : Timed n x) where
       which true p q = p
       which false p q = q
 
--- ---- what lists give a word: one list coefficients of size mass, and all words together at most 32
-mass : ℕ → List Item → ℕ
-mass i l = Σℕ (length l) (λ k. atℕ (item l k .word) i (natAbs (item l k .coef)))
+-- ---- the sizes of word i's coefficients in a list, added up: over all words they are at most 32
+absCoefs : ℕ → List Item → ℕ
+absCoefs i l = Σℕ (length l) (λ k. deltaℕ (item l k .word) i (natAbs (item l k .coef)))
 
-coef-mass : (i : ℕ) (l : List Item) → coefOf i l ≼ mass i l
-unfolding coefOf mass
-coef-mass i l = Σ-under (length l) _ _ (λ k b. at-under (item l k .word) i (item l k .coef))
+coef-most : (i : ℕ) (l : List Item) → coefOf i l ≼ absCoefs i l
+unfolding coefOf absCoefs
+coef-most i l = Σ-under (length l) _ _ (λ k b. delta-under (item l k .word) i (item l k .coef))
 
-mass-all : (n : ℕ) (l : List Item) → Short l → Σℕ n (λ i. mass i l) ≤ 32
-unfolding mass
-mass-all n l s =
-    le-trans (le-of-eq (Σℕ-swap n (length l) (λ i k. atℕ (item l k .word) i (natAbs (item l k .coef)))))
-    (le-trans (Σℕ-le (length l) _ _ (λ k b. le-trans (Σℕ-at n (item l k .word) (natAbs (item l k .coef))) (s .small k b)))
+absCoefs-all : (n : ℕ) (l : List Item) → Short l → Σℕ n (λ i. absCoefs i l) ≤ 32
+unfolding absCoefs
+absCoefs-all n l s =
+    le-trans (le-of-eq (Σℕ-swap n (length l) (λ i k. deltaℕ (item l k .word) i (natAbs (item l k .coef)))))
+    (le-trans (Σℕ-le (length l) _ _ (λ k b. le-trans (Σℕ-delta n (item l k .word) (natAbs (item l k .coef))) (s .small k b)))
     (omega (arith, Σℕ-const (length l) 8, s .few)))
 
--- m lists with factors of at most r give word i at most share, and all words together at most r · 32 m
-share : ℕ → ℕ → (ℕ → List Item) → ℕ → ℕ
-share r m l i = r * Σℕ m (λ j. mass i (l j))
+-- m lists, each times a factor of at most r: for word i at most this, and over all words at most r · 32 m
+weighted : ℕ → ℕ → (ℕ → List Item) → ℕ → ℕ
+weighted r m l i = r * Σℕ m (λ j. absCoefs i (l j))
 
-share-b : (r m : ℕ) (f : ℕ → ℤ) (l : ℕ → List Item) (i : ℕ) → ((j : ℕ) → j < m → f j ≼ r) → Σ m (λ j. f j *ℤ coefOf i (l j)) ≼ share r m l i
-unfolding share
-share-b r m f l i h = loose (le-of-eq (Σℕ-times r m (λ j. mass i (l j)))) (Σ-under m _ (λ j. r * mass i (l j)) (λ j b. h j b *b coef-mass i (l j)))
+weighted-b : (r m : ℕ) (f : ℕ → ℤ) (l : ℕ → List Item) (i : ℕ) → ((j : ℕ) → j < m → f j ≼ r) → Σ m (λ j. f j *ℤ coefOf i (l j)) ≼ weighted r m l i
+unfolding weighted
+weighted-b r m f l i h =
+    loose (le-of-eq (Σℕ-times r m (λ j. absCoefs i (l j))))
+    (Σ-under m _ (λ j. r * absCoefs i (l j)) (λ j b. h j b *b coef-most i (l j)))
 
-share-all : (n r m : ℕ) (l : ℕ → List Item) → ((j : ℕ) → j < m → RangedList n (l j)) → Σℕ n (share r m l) ≤ r * (m * 32)
-unfolding share
-share-all n r m l s =
-    le-trans (le-of-eq (Σℕ-times r n (λ i. Σℕ m (λ j. mass i (l j)))))
-    (mul-le-mul-left r (le-trans (le-of-eq (Σℕ-swap n m (λ i j. mass i (l j)))) (le-trans (Σℕ-le m _ (λ j. 32) (λ j b. mass-all n (l j) (s j b .short))) (le-of-eq (Σℕ-const m 32)))))
+weighted-all : (n r m : ℕ) (l : ℕ → List Item) → ((j : ℕ) → j < m → RangedList n (l j)) → Σℕ n (weighted r m l) ≤ r * (m * 32)
+unfolding weighted
+weighted-all n r m l s =
+    le-trans (le-of-eq (Σℕ-times r n (λ i. Σℕ m (λ j. absCoefs i (l j)))))
+    (mul-le-mul-left r
+    (le-trans (le-of-eq (Σℕ-swap n m (λ i j. absCoefs i (l j))))
+    (le-trans (Σℕ-le m _ (λ j. 32) (λ j b. absCoefs-all n (l j) (s j b .short))) (le-of-eq (Σℕ-const m 32)))))
 
-lin : (n t c d : ℕ) (a b : ℕ → ℕ) → Σℕ n (λ i. a i * t + c + (b i * t + d)) ≡ Σℕ n a * t + n * c + (Σℕ n b * t + n * d)
-unfolding Σℕ fold
-lin zero t c d a b = omega arith
-lin (suc n) t c d a b = omega (arith, lin n t c d a b)
+linear : (n t c d : ℕ) (a b : ℕ → ℕ) → Σℕ n (λ i. a i * t + c + (b i * t + d)) ≡ Σℕ n a * t + n * c + (Σℕ n b * t + n * d)
+linear n t c d a b =
+    Σℕ-plus n (λ i. a i * t + c) (λ i. b i * t + d)
+    ∙ ap₂ _+_
+    (Σℕ-plus n (λ i. a i * t) (λ i. c) ∙ ap₂ _+_ (Σℕ-by n a t) (Σℕ-const n c))
+    (Σℕ-plus n (λ i. b i * t) (λ i. d) ∙ ap₂ _+_ (Σℕ-by n b t) (Σℕ-const n d))
 
--- ---- a block and a plan: moves, squares, cost, half slopes
+-- ---- a block and a plan: moves, squares, cost, half slopes. Each total on the way, at k, and the whole
 module _ {b : Block} (B : Ranged b) {x : List ℤ} (X : Timed (length (b .words)) x) where
   pub at-time : (i : ℕ) → i < length (b .words) → time x i ≼ 262144
-  at-time i l = record { size = X .near i l }
+  at-time i l = record { size = X .small i l }
 
   pub moves-b : (k : ℕ) → k ≤ length (b .words) → Σ k (λ i. move (word b i) (time x i)) ≼ 16777216
-  moves-b k l = loose (omega (arith, B .words)) (Σ-b k {a = 524288} _ (λ i m. move-b (B .each-word i (omega arith)) (at-time i (omega arith))))
+  moves-b k l =
+      loose (omega (arith, B .words))
+      (Σ-b k {a = 524288} _ (λ i m. move-b (B .each-word i (omega arith)) (at-time i (omega arith))))
+
+  pub all-moves-b : moves b x ≼ 16777216
+  unfolding moves
+  all-moves-b = moves-b (length (b .words)) (le-refl _)
 
   pub bends-b : (k : ℕ) → k ≤ length (b .words) → Σ k (λ i. bend (word b i) (time x i)) ≼ 1099494850560
-  bends-b k l = loose (omega (arith, B .words)) (Σ-b k {a = 34359214080} _ (λ i m. bend-b (B .each-word i (omega arith)) (at-time i (omega arith))))
+  bends-b k l =
+      loose (omega (arith, B .words))
+      (Σ-b k {a = 34359214080} _ (λ i m. bend-b (B .each-word i (omega arith)) (at-time i (omega arith))))
+
+  pub all-bends-b : bends b x ≼ 1099494850560
+  unfolding bends
+  all-bends-b = bends-b (length (b .words)) (le-refl _)
 
   pub squares-b : (k : ℕ) → k ≤ length (b .tempos) → Σ k (λ j. squareOf (tempo b j) x) ≼ 1152921504606846976
-  squares-b k l = loose (omega (arith, B .tempos)) (Σ-b k {a = 18014398509481984} _ (λ j m. squareOf-b X (B .each-tempo j (omega arith))))
+  squares-b k l =
+      loose (omega (arith, B .tempos)) (Σ-b k {a = 18014398509481984} _ (λ j m. squareOf-b X (B .each-tempo j (omega arith))))
+
+  pub all-squares-b : squares b x ≼ 1152921504606846976
+  unfolding squares
+  all-squares-b = squares-b (length (b .tempos)) (le-refl _)
 
   pub slopes-b : (i k : ℕ) → k ≤ length (b .tempos) → Σ k (λ j. slopeOf (tempo b j) x i) ≼ 2199023255552
-  slopes-b i k l = loose (omega (arith, B .tempos)) (Σ-b k {a = 34359738368} _ (λ j m. slopeOf-b X (B .each-tempo j (omega arith)) i))
+  slopes-b i k l =
+      loose (omega (arith, B .tempos)) (Σ-b k {a = 34359738368} _ (λ j m. slopeOf-b X (B .each-tempo j (omega arith)) i))
 
   pub g-b : (i : ℕ) → g b x i ≼ 2199023255552
   unfolding g
-  g-b i = slopes-b i (length (b .tempos)) (le-refl (length (b .tempos)))
+  g-b i = slopes-b i (length (b .tempos)) (le-refl _)
 
 -- ---- and prices: the gap
 module _ {b : Block} (B : Ranged b) {p : Prices} (P : Priced p) where
@@ -174,19 +203,24 @@ module _ {b : Block} (B : Ranged b) {p : Prices} (P : Priced p) where
   span-price : (k : ℕ) → price (p .spans) k ≼ 4294967296
   span-price k = record { size = P .spans k }
 
-  pub anchorParts-b : (i k : ℕ) → k ≤ length (b .anchors) → Σ k (λ a. price (p .anchors) a *ℤ coefOf i (anchor b a .list)) ≼ 1099511627776
-  anchorParts-b i k l = loose (omega (arith, B .anchors)) (Σ-b k {a = 137438953472} _ (λ a m. anchor-price a *b coefOf-b (B .each-anchor a (omega arith) .list .short) i))
+  pub anchorParts-b : (i k : ℕ) → k ≤ length (b .anchors)
+      → Σ k (λ a. price (p .anchors) a *ℤ coefOf i (anchor b a .list)) ≼ 1099511627776
+  anchorParts-b i k l =
+      loose (omega (arith, B .anchors))
+      (Σ-b k {a = 137438953472} _ (λ a m. anchor-price a *b coefOf-b (B .each-anchor a (omega arith) .list .short) i))
 
   pub anchorPart-b : (i : ℕ) → anchorPart b (p .anchors) i ≼ 1099511627776
   unfolding anchorPart
-  anchorPart-b i = anchorParts-b i (length (b .anchors)) (le-refl (length (b .anchors)))
+  anchorPart-b i = anchorParts-b i (length (b .anchors)) (le-refl _)
 
   pub spanParts-b : (i k : ℕ) → k ≤ length (b .spans) → Σ k (λ a. price (p .spans) a *ℤ coefOf i (span b a .list)) ≼ 2199023255552
-  spanParts-b i k l = loose (omega (arith, B .spans)) (Σ-b k {a = 137438953472} _ (λ a m. span-price a *b coefOf-b (B .each-span a (omega arith) .list .short) i))
+  spanParts-b i k l =
+      loose (omega (arith, B .spans))
+      (Σ-b k {a = 137438953472} _ (λ a m. span-price a *b coefOf-b (B .each-span a (omega arith) .list .short) i))
 
   pub spanPart-b : (i : ℕ) → spanPart b (p .spans) i ≼ 2199023255552
   unfolding spanPart
-  spanPart-b i = spanParts-b i (length (b .spans)) (le-refl (length (b .spans)))
+  spanPart-b i = spanParts-b i (length (b .spans)) (le-refl _)
 
   pub value-b : (k : ℕ) → k < length (b .anchors) → price (p .anchors) k *ℤ anchor b k .value ≼ 36028797018963968
   value-b k l = anchor-price k *b value
@@ -196,6 +230,10 @@ module _ {b : Block} (B : Ranged b) {p : Prices} (P : Priced p) where
 
   pub values-b : (k : ℕ) → k ≤ length (b .anchors) → Σ k (λ a. price (p .anchors) a *ℤ anchor b a .value) ≼ 288230376151711744
   values-b k l = loose (omega (arith, B .anchors)) (Σ-b k {a = 36028797018963968} _ (λ a m. value-b a (omega arith)))
+
+  pub all-values-b : values b (p .anchors) ≼ 288230376151711744
+  unfolding values
+  all-values-b = values-b (length (b .anchors)) (le-refl _)
 
   pub low-b : (k : ℕ) → k < length (b .spans) → price (p .spans) k *ℤ span b k .lower ≼ 36028797018963968
   low-b k l = span-price k *b low
@@ -209,80 +247,101 @@ module _ {b : Block} (B : Ranged b) {p : Prices} (P : Priced p) where
       high : span b k .upper ≼ 8388608
       high = record { size = B .each-span k l .upper }
 
-  pub ends-b : (k : ℕ) → k ≤ length (b .spans) → Σ k (λ a. maxℤ (price (p .spans) a *ℤ span b a .lower) (price (p .spans) a *ℤ span b a .upper)) ≼ 576460752303423488
-  ends-b k l = loose (omega (arith, B .spans)) (Σ-b k {a = 36028797018963968} _ (λ a m. max-b (low-b a (omega arith)) (high-b a (omega arith))))
+  pub ends-b : (k : ℕ) → k ≤ length (b .spans)
+      → Σ k (λ a. maxℤ (price (p .spans) a *ℤ span b a .lower) (price (p .spans) a *ℤ span b a .upper)) ≼ 576460752303423488
+  ends-b k l =
+      loose (omega (arith, B .spans)) (Σ-b k {a = 36028797018963968} _ (λ a m. max-b (low-b a (omega arith)) (high-b a (omega arith))))
+
+  pub all-ends-b : ends b (p .spans) ≼ 576460752303423488
+  unfolding ends
+  all-ends-b = ends-b (length (b .spans)) (le-refl _)
 
   module _ {x : List ℤ} (X : Timed (length (b .words)) x) where
     pub h-b : (i : ℕ) → h b x p i ≼ 5497558138880
     unfolding h
     h-b i = g-b B X i +b anchorPart-b i +b spanPart-b i
 
-    -- what word i brings: its half slope at most gs i, its h at most hs i
-    gs : ℕ → ℕ
-    gs i = share 1073741824 (length (b .tempos)) (λ j. tempo b j .list) i
+    -- the most that word i's half slope and its h can be, with the word's own coefficients
+    gMost : ℕ → ℕ
+    gMost i = weighted 1073741824 (length (b .tempos)) (λ j. tempo b j .list) i
 
-    hs : ℕ → ℕ
-    hs i = gs i + share 4294967296 (length (b .anchors)) (λ k. anchor b k .list) i + share 4294967296 (length (b .spans)) (λ k. span b k .list) i
+    aMost : ℕ → ℕ
+    aMost i = weighted 4294967296 (length (b .anchors)) (λ k. anchor b k .list) i
 
-    g-gs : (i : ℕ) → g b x i ≼ gs i
-    unfolding g slopeOf gs
-    g-gs i = share-b 1073741824 (length (b .tempos)) _ (λ j. tempo b j .list) i (λ j l. pos-b (B .each-tempo j l .weight) *b off-b X (B .each-tempo j l))
+    sMost : ℕ → ℕ
+    sMost i = weighted 4294967296 (length (b .spans)) (λ k. span b k .list) i
 
-    h-hs : (i : ℕ) → h b x p i ≼ hs i
-    unfolding h anchorPart spanPart hs
-    h-hs i =
-        g-gs i
-        +b share-b 4294967296 (length (b .anchors)) (price (p .anchors)) (λ k. anchor b k .list) i (λ k l. anchor-price k)
-        +b share-b 4294967296 (length (b .spans)) (price (p .spans)) (λ k. span b k .list) i (λ k l. span-price k)
+    hMost : ℕ → ℕ
+    hMost i = gMost i + aMost i + sMost i
 
-    gs-all : Σℕ (length (b .words)) gs ≤ 2199023255552
-    unfolding gs
-    gs-all = le-trans (share-all (length (b .words)) 1073741824 (length (b .tempos)) (λ j. tempo b j .list) (λ j l. B .each-tempo j l .list)) (omega (arith, B .tempos))
+    g-most : (i : ℕ) → g b x i ≼ gMost i
+    unfolding g slopeOf gMost
+    g-most i =
+        weighted-b 1073741824 (length (b .tempos)) _ (λ j. tempo b j .list) i
+        (λ j l. pos-b (B .each-tempo j l .weight) *b off-b X (B .each-tempo j l))
 
-    hs-all : Σℕ (length (b .words)) hs ≤ 5497558138880
-    unfolding hs
-    hs-all =
+    h-most : (i : ℕ) → h b x p i ≼ hMost i
+    unfolding h anchorPart spanPart hMost aMost sMost
+    h-most i =
+        g-most i
+        +b weighted-b 4294967296 (length (b .anchors)) (price (p .anchors)) (λ k. anchor b k .list) i (λ k l. anchor-price k)
+        +b weighted-b 4294967296 (length (b .spans)) (price (p .spans)) (λ k. span b k .list) i (λ k l. span-price k)
+
+    g-all : Σℕ (length (b .words)) gMost ≤ 2199023255552
+    unfolding gMost
+    g-all =
+        le-trans (weighted-all (length (b .words)) 1073741824 (length (b .tempos)) (λ j. tempo b j .list) (λ j l. B .each-tempo j l .list))
+        (omega (arith, B .tempos))
+
+    h-all : Σℕ (length (b .words)) hMost ≤ 5497558138880
+    unfolding hMost aMost sMost
+    h-all =
         omega (
           arith,
-          gs-all,
+          g-all,
           B .anchors,
           B .spans,
-          Σℕ-plus (length (b .words)) (λ i. gs i + share 4294967296 (length (b .anchors)) (λ k. anchor b k .list) i) (share 4294967296 (length (b .spans)) (λ k. span b k .list)),
-          Σℕ-plus (length (b .words)) gs (share 4294967296 (length (b .anchors)) (λ k. anchor b k .list)),
-          share-all (length (b .words)) 4294967296 (length (b .anchors)) (λ k. anchor b k .list) (λ k l. B .each-anchor k l .list),
-          share-all (length (b .words)) 4294967296 (length (b .spans)) (λ k. span b k .list) (λ k l. B .each-span k l .list),
+          Σℕ-plus (length (b .words)) (λ i. gMost i + aMost i) sMost,
+          Σℕ-plus (length (b .words)) gMost aMost,
+          weighted-all (length (b .words)) 4294967296 (length (b .anchors)) (λ k. anchor b k .list) (λ k l. B .each-anchor k l .list),
+          weighted-all (length (b .words)) 4294967296 (length (b .spans)) (λ k. span b k .list) (λ k l. B .each-span k l .list),
         )
 
-    -- a word's part of the gap
-    owns : ℕ → ℕ
-    owns i = gs i * 262144 + 34359214080 + (hs i * 262144 + 4295032831 * 524288)
+    -- the most that a word's part of the gap can be
+    gapMost : ℕ → ℕ
+    gapMost i = gMost i * 262144 + 34359214080 + (hMost i * 262144 + 4295032831 * 524288)
 
-    own-owns : (i : ℕ) → i < length (b .words) → own b x p i ≼ owns i
-    unfolding own ownPart owns
-    own-owns i l =
-        g-gs i *b at-time B X i l +b bend-b (B .each-word i l) (at-time B X i l)
-        -b least-line-b (B .each-word i l) (h b x p i) (p .cap) (h-hs i) (P .cap)
+    gap-most : (i : ℕ) → i < length (b .words) → wordGapOf b x p i ≼ gapMost i
+    unfolding wordGapOf wordGap gapMost
+    gap-most i l =
+        g-most i *b at-time B X i l +b bend-b (B .each-word i l) (at-time B X i l)
+        -b least-line-b (B .each-word i l) (h b x p i) (p .cap) (h-most i) (P .cap)
 
-    owns-all : Σℕ (length (b .words)) owns ≤ 2089672426089611264
-    unfolding owns
-    owns-all = le-trans (le-of-eq (lin (length (b .words)) 262144 34359214080 2251834172899328 gs hs)) (omega (arith, gs-all, hs-all, B .words))
+    gap-all : Σℕ (length (b .words)) gapMost ≤ 2089672426089611264
+    unfolding gapMost
+    gap-all =
+        le-trans (le-of-eq (linear (length (b .words)) 262144 34359214080 2251834172899328 gMost hMost)) (omega (arith, g-all, h-all, B .words))
 
-    -- the words' total, and each total on the way to it
-    pub words-b : (k : ℕ) → k ≤ length (b .words) → Σ k (own b x p) ≼ 2089672426089611264
-    words-b k l = loose (le-trans (Σℕ-part k (length (b .words)) owns l) owns-all) (Σ-under k (own b x p) owns (λ i m. own-owns i (omega arith)))
+    -- the words' total, each total on the way to it, and a single word's part
+    pub wordGaps-b : (k : ℕ) → k ≤ length (b .words) → Σ k (wordGapOf b x p) ≼ 2089672426089611264
+    wordGaps-b k l =
+        loose (le-trans (Σℕ-part k (length (b .words)) gapMost l) gap-all)
+        (Σ-under k (wordGapOf b x p) gapMost (λ i m. gap-most i (omega arith)))
 
-    -- a single word's part
-    pub own-b : (i : ℕ) → i < length (b .words) → own b x p i ≼ 2089672426089611264
-    unfolding Σℕ fold
-    own-b i l = loose (omega (arith, owns-all, Σℕ-part (suc i) (length (b .words)) owns l)) (own-owns i l)
+    pub all-wordGaps-b : wordGaps b x p ≼ 2089672426089611264
+    unfolding wordGaps
+    all-wordGaps-b = wordGaps-b (length (b .words)) (le-refl _)
+
+    pub wordGapOf-b : (i : ℕ) → i < length (b .words) → wordGapOf b x p i ≼ 2089672426089611264
+    wordGapOf-b i l = loose (le-trans (Σℕ-term (length (b .words)) i gapMost l) gap-all) (gap-most i l)
 
     -- the gap: 0.65 · 2^63
     pub gap-b : gap b x p ≼ 5980784703127420928
-    unfolding gap words values ends
+    unfolding gap
     gap-b =
-        lit-b (pos 2) *b words-b (length (b .words)) (le-refl (length (b .words)))
-        +b lit-b (pos 2) *b values-b (length (b .anchors)) (le-refl (length (b .anchors)))
-        +b lit-b (pos 2) *b ends-b (length (b .spans)) (le-refl (length (b .spans)))
+        lit-b (pos 2) *b all-wordGaps-b
+        +b lit-b (pos 2) *b all-values-b
+        +b lit-b (pos 2) *b all-ends-b
         +b lit-b (pos 2) *b (pos-b (P .cap) *b pos-b (B .cap))
 
     pub gap-fits : SFits w64 (gap b x p)

@@ -10,19 +10,23 @@ use Rattle.folds.specs.Fold.{all, all-at, both, both-true, pick}
 use Rattle.ints.specs.Diff.{leZ-true}
 use Rattle.ints.specs.Sum.{Σ}
 use Rattle.block.specs.Block.{Block, Word, Item, Anchor, Span, word, anchor, span, item}
-use Rattle.block.specs.Plan.{time, size, sumOf, moves}
+use Rattle.block.specs.Plan.{time, abs, sumOf, moves}
 
 -- ---- "A window is kept where the time is from lower to upper, an anchor where its list's sum is its value, a span where the sum is from lower to
 -- upper, the cap where all moves added up are at most the cap."
+abbrev pub InWindows : Block → List ℤ → Type 0
+InWindows b x = (i : ℕ) → i < length (b .words) → (pos (word b i .lower) ≤ℤ time x i) × (time x i ≤ℤ pos (word b i .upper))
+
 pub record Keeps (b : Block) (x : List ℤ) : Type 0 where
-  pub windows : (i : ℕ) → i < length (b .words) → (pos (word b i .lower) ≤ℤ time x i) × (time x i ≤ℤ pos (word b i .upper))
+  pub windows : InWindows b x
   pub anchors : (k : ℕ) → k < length (b .anchors) → sumOf (anchor b k .list) x ≡ anchor b k .value
-  pub spans : (k : ℕ) → k < length (b .spans) → (span b k .lower ≤ℤ sumOf (span b k .list) x) × (sumOf (span b k .list) x ≤ℤ span b k .upper)
+  pub spans : (k : ℕ) → k < length (b .spans)
+      → (span b k .lower ≤ℤ sumOf (span b k .list) x) × (sumOf (span b k .list) x ≤ℤ span b k .upper)
   pub cap : moves b x ≤ℤ pos (b .cap)
 
 -- ---- "An anchor's miss is |sum − value|"
 unfoldable pub anchorMiss : Anchor → List ℤ → ℤ
-anchorMiss a x = size (sumOf (a .list) x -ℤ a .value)
+anchorMiss a x = abs (sumOf (a .list) x -ℤ a .value)
 
 -- "a span's is how far the sum lies outside lower to upper, 0 within."
 unfoldable pub outside : ℤ → ℤ → ℤ → ℤ
@@ -37,7 +41,7 @@ unfoldable pub windowKept : Word → ℤ → Bool
 windowKept w t = both (leZ (pos (w .lower)) t) (leZ t (pos (w .upper)))
 
 abbrev pub coefSize : List Item → ℕ → ℤ
-coefSize l k = size (item l k .coef)
+coefSize l k = abs (item l k .coef)
 
 unfoldable pub coefSizes : List Item → ℤ
 coefSizes l = Σ (length l) (coefSize l)
@@ -62,7 +66,7 @@ bounded b x = both (windowsKept b x) (both (movesBounded b x) (both (anchorsBoun
 
 -- the same as facts
 pub record Bounded (b : Block) (x : List ℤ) : Type 0 where
-  pub windows : (i : ℕ) → i < length (b .words) → (pos (word b i .lower) ≤ℤ time x i) × (time x i ≤ℤ pos (word b i .upper))
+  pub windows : InWindows b x
   pub moved : (pos 2 *ℤ (moves b x -ℤ pos (b .cap))) ≤ℤ pos (length (b .words))
   pub anchors : (k : ℕ) → k < length (b .anchors) → (pos 2 *ℤ anchorMiss (anchor b k) x) ≤ℤ coefSizes (anchor b k .list)
   pub spans : (k : ℕ) → k < length (b .spans) → (pos 2 *ℤ spanMiss (span b k) x) ≤ℤ coefSizes (span b k .list)

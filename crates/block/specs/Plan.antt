@@ -11,8 +11,8 @@ abbrev pub time : List ℤ → ℕ → ℤ
 time x i = getD x i (pos 0)
 
 -- |z|
-abbrev pub size : ℤ → ℤ
-size z = pos (natAbs z)
+abbrev pub abs : ℤ → ℤ
+abs z = pos (natAbs z)
 
 abbrev pub square : ℤ → ℤ
 square z = z *ℤ z
@@ -26,7 +26,7 @@ sumOf l x = Σ (length l) (product l x)
 
 -- "A word's move is |time − key|."
 unfoldable pub move : Word → ℤ → ℤ
-move w t = size (t -ℤ pos (w .key))
+move w t = abs (t -ℤ pos (w .key))
 
 -- "all moves added up"
 unfoldable pub moves : Block → List ℤ → ℤ

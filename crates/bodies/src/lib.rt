@@ -1,6 +1,7 @@
 // The body of each field: its verdict, and what it holds.
 ghost use mathlib.Core.Path.{_≡_};
-ghost use Prim.Native.Nat.{ℕ, _+_, _≤_, _<_};
+ghost use Prim.Native.Nat.{_≤_};
+ghost use Rattle.block.specs.Ranges.{maxPairs};
 ghost use Rattle.format.specs.Read as Read;
 ghost use Rattle.format.specs.Structs.{wordOf, pairOf, listOf, tempoOf, anchorOf, spanOf, Filled};
 use format::Anchor;
@@ -13,7 +14,7 @@ use format::Word;
 
 // The word number of pair i is above that of the pair before it.
 pub fn rises(b: &[u8], p: usize, i: usize) -> bool
-    requires { ⌜ (p ≤ 8) × (i ≤ 4) ⌝ }
+    requires { ⌜ (p ≤ 8) × (i ≤ maxPairs) ⌝ }
     ensures { λ r. ⌜ r ≡ Read.rises (now (b .entry)) p i ⌝ }
 {
     if i == 0 {
@@ -23,7 +24,7 @@ pub fn rises(b: &[u8], p: usize, i: usize) -> bool
 }
 
 pub fn pair_verdict(b: &[u8], p: usize, words: u64, i: usize) -> Verdict
-    requires { ⌜ (p ≤ 8) × (i ≤ 4) ⌝ }
+    requires { ⌜ (p ≤ 8) × (i ≤ maxPairs) ⌝ }
     ensures { λ r. ⌜ r ≡ Read.pairVerdict (now (b .entry)) p words i ⌝ }
 {
     if words <= numbers::byte_at(b, p + 2 * i + 1) {
@@ -31,7 +32,7 @@ pub fn pair_verdict(b: &[u8], p: usize, words: u64, i: usize) -> Verdict
     }
     if rises(b, p, i) {
         let k = p + 2 * i + 2;
-        if numbers::i8_within(format::MAX_COEF, b, k) {
+        if numbers::i8_size_up_to(format::MAX_COEF, b, k) {
             if numbers::i8_is_zero(b, k) {
                 return Verdict::OutOfRange;
             }
@@ -43,7 +44,7 @@ pub fn pair_verdict(b: &[u8], p: usize, words: u64, i: usize) -> Verdict
 }
 
 pub fn list_verdict(b: &[u8], p: usize, words: u64, count: usize) -> Verdict
-    requires { ⌜ (p ≤ 8) × (count ≤ 4) ⌝ }
+    requires { ⌜ (p ≤ 8) × (count ≤ maxPairs) ⌝ }
     ensures { λ r. ⌜ r ≡ Read.listVerdict (now (b .entry)) p words count ⌝ }
 {
     if numbers::byte_at(b, p) != (count as u64) {
@@ -59,7 +60,7 @@ pub fn list_verdict(b: &[u8], p: usize, words: u64, count: usize) -> Verdict
 }
 
 pub fn pair_from(b: &[u8], p: usize, i: usize) -> Pair
-    requires { ⌜ (p ≤ 8) × (i ≤ 4) ⌝ }
+    requires { ⌜ (p ≤ 8) × (i ≤ maxPairs) ⌝ }
     ensures { λ r. ⌜ pairOf r ≡ Read.pairFrom (now (b .entry)) p i ⌝ }
 {
     let word = numbers::byte_at(b, p + 2 * i + 1);
@@ -71,7 +72,7 @@ pub fn pair_from(b: &[u8], p: usize, i: usize) -> Pair
 }
 
 pub fn list_from(b: &[u8], p: usize, count: usize) -> Pairs
-    requires { ⌜ (p ≤ 8) × (count ≤ 4) ⌝ }
+    requires { ⌜ (p ≤ 8) × (count ≤ maxPairs) ⌝ }
     ensures { λ r. ⌜ (listOf r ≡ Read.listFrom (now (b .entry)) p count) × Filled r ⌝ }
 {
     let p0 = pair_from(b, p, 0);
@@ -128,7 +129,7 @@ pub fn word_from(b: &[u8]) -> Word
 }
 
 pub fn tempo_verdict(b: &[u8], words: u64, count: usize) -> Verdict
-    requires { ⌜ count ≤ 4 ⌝ }
+    requires { ⌜ count ≤ maxPairs ⌝ }
     ensures { λ r. ⌜ r ≡ Read.tempoVerdict (now (b .entry)) words count ⌝ }
 {
     let weight = numbers::u16_at(b, 0);
@@ -138,14 +139,14 @@ pub fn tempo_verdict(b: &[u8], words: u64, count: usize) -> Verdict
     if format::MAX_WEIGHT < weight {
         return Verdict::OutOfRange;
     }
-    if numbers::i32_within(format::MAX_SUM, b, 2) {
+    if numbers::i32_size_up_to(format::MAX_SUM, b, 2) {
         return list_verdict(b, 6, words, count);
     }
     Verdict::OutOfRange
 }
 
 pub fn tempo_from(b: &[u8], count: usize) -> Tempo
-    requires { ⌜ count ≤ 4 ⌝ }
+    requires { ⌜ count ≤ maxPairs ⌝ }
     ensures { λ r. ⌜ (tempoOf r ≡ Read.tempoFrom (now (b .entry)) count) × Filled (r .list) ⌝ }
 {
     let weight = numbers::u16_at(b, 0);
@@ -159,17 +160,17 @@ pub fn tempo_from(b: &[u8], count: usize) -> Tempo
 }
 
 pub fn anchor_verdict(b: &[u8], words: u64, count: usize) -> Verdict
-    requires { ⌜ count ≤ 4 ⌝ }
+    requires { ⌜ count ≤ maxPairs ⌝ }
     ensures { λ r. ⌜ r ≡ Read.anchorVerdict (now (b .entry)) words count ⌝ }
 {
-    if numbers::i32_within(format::MAX_SUM, b, 0) {
+    if numbers::i32_size_up_to(format::MAX_SUM, b, 0) {
         return list_verdict(b, 4, words, count);
     }
     Verdict::OutOfRange
 }
 
 pub fn anchor_from(b: &[u8], count: usize) -> Anchor
-    requires { ⌜ count ≤ 4 ⌝ }
+    requires { ⌜ count ≤ maxPairs ⌝ }
     ensures { λ r. ⌜ (anchorOf r ≡ Read.anchorFrom (now (b .entry)) count) × Filled (r .list) ⌝ }
 {
     let value = numbers::i32_at(b, 0);
@@ -181,11 +182,11 @@ pub fn anchor_from(b: &[u8], count: usize) -> Anchor
 }
 
 pub fn span_verdict(b: &[u8], words: u64, count: usize) -> Verdict
-    requires { ⌜ count ≤ 4 ⌝ }
+    requires { ⌜ count ≤ maxPairs ⌝ }
     ensures { λ r. ⌜ r ≡ Read.spanVerdict (now (b .entry)) words count ⌝ }
 {
-    if numbers::i32_within(format::MAX_SUM, b, 0) {
-        if numbers::i32_within(format::MAX_SUM, b, 4) {
+    if numbers::i32_size_up_to(format::MAX_SUM, b, 0) {
+        if numbers::i32_size_up_to(format::MAX_SUM, b, 4) {
             let list = list_verdict(b, 8, words, count);
             if numbers::accepted(list) {
                 if numbers::i32_le(b, 0, 4) {
@@ -201,7 +202,7 @@ pub fn span_verdict(b: &[u8], words: u64, count: usize) -> Verdict
 }
 
 pub fn span_from(b: &[u8], count: usize) -> Span
-    requires { ⌜ count ≤ 4 ⌝ }
+    requires { ⌜ count ≤ maxPairs ⌝ }
     ensures { λ r. ⌜ (spanOf r ≡ Read.spanFrom (now (b .entry)) count) × Filled (r .list) ⌝ }
 {
     let lower = numbers::i32_at(b, 0);

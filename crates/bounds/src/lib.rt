@@ -1,7 +1,7 @@
 // How far a plan misses a block's anchors and spans, and the test of a written plan against its bounds. The definitions are `block`'s.
+use exact::abs;
 use exact::list_sum;
 use exact::moves;
-use exact::size;
 use exact::time_at;
 use format::Anchor;
 use format::Block;
@@ -10,11 +10,8 @@ use format::Pairs;
 use format::Span;
 use format::Word;
 ghost use mathlib.Core.Path.{_≡_};
-ghost use lib.IntN.{pos, _*ℤ_};
 ghost use lib.ListN.{length};
 ghost use Rattle.ints.specs.Bound.{_≼_};
-ghost use Rattle.folds.specs.Fold.{all};
-ghost use Rattle.block.specs.Plan.{time, size};
 ghost use Rattle.block.specs.Keeps.{anchorMiss, outside, spanMiss, windowKept, coefSizes, missBounded, windowsKept, movesBounded, anchorsBounded, spansBounded, bounded};
 ghost use Rattle.block.specs.Ranges.{Short, RangedAnchor, RangedSpan, RangedWord, Timed};
 ghost use Rattle.format.specs.Structs.{Filled, wordOf, listOf, anchorOf, spanOf, blockOf};
@@ -28,7 +25,7 @@ pub fn anchor_miss(a: Anchor, times: &[i32]) -> i64
     ensures { λ r. ⌜ r ≡ anchorMiss (anchorOf a) (now (times .entry)) ⌝ }
 {
     let l = a.list;
-    size(list_sum(l, times) - a.value)
+    abs(list_sum(l, times) - a.value)
 }
 
 // How far s lies outside lower to upper, 0 within.
@@ -66,7 +63,7 @@ fn coef_sizes(l: Pairs) -> i64
     let n = l.count;
     for k in 0..n {
         let p = l.pair[k];
-        sum += size(p.coef);
+        sum += abs(p.coef);
     }
     sum
 }

@@ -8,9 +8,9 @@ use format::Word;
 ghost use mathlib.Core.Path.{_≡_};
 ghost use Prim.Native.Nat.{_<_};
 ghost use lib.ListN.{length};
-ghost use Rattle.ints.specs.Sum.{at};
+ghost use Rattle.ints.specs.Sum.{delta};
 ghost use Rattle.ints.specs.Bound.{_≼_};
-ghost use Rattle.block.specs.Plan.{time, size, sumOf, move, moves, bend, off, squareOf, squares, bends, cost};
+ghost use Rattle.block.specs.Plan.{time, abs, sumOf, move, moves, bend, off, squareOf, squares, bends, cost};
 ghost use Rattle.block.specs.Gap.{coefOf, slopeOf};
 ghost use Rattle.block.specs.Ranges.{Short, RangedList, RangedWord, RangedTempo, Timed};
 ghost use Rattle.format.specs.Structs.{Filled, wordOf, listOf, tempoOf, blockOf};
@@ -25,9 +25,9 @@ pub fn time_at(times: &[i32], i: usize) -> i64
 }
 
 // |z|
-pub fn size(z: i64) -> i64
+pub fn abs(z: i64) -> i64
     requires { ⌜ z ≼ 9223372036854775807 ⌝ }
-    ensures { λ r. ⌜ r ≡ size z ⌝ }
+    ensures { λ r. ⌜ r ≡ abs z ⌝ }
 {
     if z < 0 { -z } else { z }
 }
@@ -52,7 +52,7 @@ pub fn list_sum(l: Pairs, times: &[i32]) -> i64
 // A pair's coefficient where its word is i, else 0.
 fn coef_at(i: usize, p: Pair) -> i64
     requires { ⌜ p .coef ≼ 8 ⌝ }
-    ensures { λ r. ⌜ r ≡ at (p .word) i (p .coef) ⌝ }
+    ensures { λ r. ⌜ r ≡ delta (p .word) i (p .coef) ⌝ }
 {
     if p.word as usize == i { p.coef } else { 0 }
 }
@@ -78,7 +78,7 @@ pub fn move_of(w: Word, t: i64) -> i64
     requires { ⌜ t ≼ 262144 ⌝ }
     ensures { λ r. ⌜ r ≡ move (wordOf w) t ⌝ }
 {
-    size(t - (w.key as i64))
+    abs(t - (w.key as i64))
 }
 
 // slope × |time - key|

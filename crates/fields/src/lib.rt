@@ -1,6 +1,7 @@
 // A field's verdict: its header's, then its body's.
 ghost use mathlib.Core.Path.{_≡_};
-ghost use Prim.Native.Nat.{ℕ, _+_, _≤_};
+ghost use Prim.Native.Nat.{_≤_};
+ghost use Rattle.block.specs.Ranges.{maxPairs};
 ghost use Rattle.format.specs.Read as Read;
 use format::Counts;
 use format::Verdict;
@@ -8,7 +9,7 @@ use format::Verdict;
 // The count of the list in a body of n bytes, `fixed` of which stand before its pairs; 0 where none fits.
 pub fn pairs_in(fixed: u64, n: u64) -> usize
     requires { ⌜ fixed ≤ 9 ⌝ }
-    ensures { λ r. ⌜ (r ≡ Read.pairsIn fixed n) × (r ≤ 4) ⌝ }
+    ensures { λ r. ⌜ (r ≡ Read.pairsIn fixed n) × (r ≤ maxPairs) ⌝ }
 {
     if n == fixed + 2 {
         return 1;
@@ -27,7 +28,7 @@ pub fn pairs_in(fixed: u64, n: u64) -> usize
 
 // The count of a field of tag t and length n, 1 for a tag without a list; 0 where the tag has no such length.
 pub fn count(t: u64, n: u64) -> usize
-    ensures { λ r. ⌜ (r ≡ Read.count t n) × (r ≤ 4) ⌝ }
+    ensures { λ r. ⌜ (r ≡ Read.count t n) × (r ≤ maxPairs) ⌝ }
 {
     if t == format::WORD {
         if n == 20 {
@@ -52,7 +53,7 @@ pub fn count(t: u64, n: u64) -> usize
 
 // The count of the field that r begins with.
 pub fn count_of(r: &[u8]) -> usize
-    ensures { λ k. ⌜ (k ≡ Read.countOf (now (r .entry))) × (k ≤ 4) ⌝ }
+    ensures { λ k. ⌜ (k ≡ Read.countOf (now (r .entry))) × (k ≤ maxPairs) ⌝ }
 {
     count(numbers::byte_at(r, 0), numbers::u16_at(r, 1))
 }
@@ -108,7 +109,7 @@ pub fn head_verdict(r: &[u8], last: u64, so: Counts) -> Verdict
 }
 
 pub fn body_verdict(t: u64, b: &[u8], words: u64, n: usize) -> Verdict
-    requires { ⌜ n ≤ 4 ⌝ }
+    requires { ⌜ n ≤ maxPairs ⌝ }
     ensures { λ v. ⌜ v ≡ Read.bodyVerdict t (now (b .entry)) words n ⌝ }
 {
     if t == format::WORD {

@@ -3,21 +3,24 @@ use mathlib.Core.Path.{_≡_, refl, sym, _∙_, ap}
 use mathlib.Core.Bool.{Bool, true, false, not}
 use mathlib.Core.List.{List, [], _∷_, map}
 use mathlib.Core.Logic.{⊎-elim}
-use Prim.Native.Nat.{ℕ, zero, suc, _+_, _≤_, _<_}
-use native.Mathlib.Nat.{not-suc-le-zero, le-of-suc-le-suc, eq-or-lt-of-le}
+use Prim.Native.Nat.{ℕ, zero, suc, _+_, _-_, _≤_, _<_}
+use native.Mathlib.Numerals.{add-one}
+use native.Mathlib.Omega.{arith}
+use native.Mathlib.Nat.{not-suc-le-zero, le-of-suc-le-suc, eq-or-lt-of-le, add-sub-cancel-left}
 use lib.Dec.{leb, ltb, eqb}
-use lib.ListN.{take}
+use lib.ListN.{take, drop}
 use borrow.Author.Tests.{lt-leb, le-leb, lt-ltb, le-ltb, eq-eqb, ne-eqb}
-use Rattle.folds.specs.Fold.{Out, out, then, walk, walk-call, walk-stop, walk-end, false-true, both-first, both-second, both-yes, picks, tests}
+use Rattle.folds.specs.Fold.{false-true, picks, tests}
 use Rattle.block.specs.Block.{Item, Block}
-use Rattle.format.specs.Read.{need, after, accepted, judging, verdict, firstOf, hasRoom, bodyVerdict, withBody}
+use Rattle.format.specs.Read.{need, after, len, body, accepted, firstOf, hasRoom, bodyVerdict, withBody}
+use Rattle.format.specs.Equations.{pairsIn-by, count-by, hasRoom-by, bodyVerdict-by}
 use Rattle.format.specs.Structs.{pairOf}
 use Rattle.format.specs.declared.Counts.{Counts}
 use Rattle.format.specs.declared.Pair.{Pair}
 use Rattle.format.specs.declared.Verdict.{Verdict}
 use Rattle.format.specs.declared.Verdict.the-variants.{Accepted, BadLength, UnknownTag, OutOfOrder, TooMany, OutOfRange, CrossedBounds, BadList}
 
--- ---- a row of tests, each of which refuses
+-- ---- a row of tests, each of which refuses (each verdict's own: Equations.antt)
 pub need-stop : {t : Bool} (v rest : Verdict) → t ≡ false → v ≡ need t v rest
 unfolding need
 need-stop v rest e = rw e
@@ -29,6 +32,32 @@ need-on v rest e f = rw e f
 -- the same for a verdict that a call gave
 pub after-stop : {r v : Verdict} (rest : Verdict) → r ≡ v → accepted v ≡ false → r ≡ after v rest
 after-stop rest e h = e ∙ need-stop _ rest h
+
+-- where a row of needs is accepted, its first test held, and the rest is accepted
+pub need-held : (t : Bool) (v rest : Verdict) → accepted v ≡ false → accepted (need t v rest) ≡ true → (t ≡ true) × (accepted rest ≡ true)
+unfolding need
+need-held true v rest f e = (refl, e)
+need-held false v rest f e = absurd (false-true (sym f ∙ e))
+
+-- the same of a verdict and the rest
+pub after-held : (v rest : Verdict) → accepted (after v rest) ≡ true → (accepted v ≡ true) × (accepted rest ≡ true)
+unfolding need
+after-held v rest e = go (accepted v) refl
+  where
+    go : (t : Bool) → accepted v ≡ t → (accepted v ≡ true) × (accepted rest ≡ true)
+    go true f = (f, rw f at e)
+    go false f = need-held (accepted v) v rest f e
+
+pub is-accepted : (v : Verdict) → accepted v ≡ true → v ≡ Accepted
+unfolding accepted
+is-accepted Accepted e = refl
+is-accepted BadLength e = absurd (false-true e)
+is-accepted UnknownTag e = absurd (false-true e)
+is-accepted OutOfOrder e = absurd (false-true e)
+is-accepted TooMany e = absurd (false-true e)
+is-accepted OutOfRange e = absurd (false-true e)
+is-accepted CrossedBounds e = absurd (false-true e)
+is-accepted BadList e = absurd (false-true e)
 
 pub not-true : {b : Bool} → b ≡ false → not b ≡ true
 not-true e = ap not e
@@ -87,52 +116,40 @@ pub ruleset calls = (accepted-is, room-is, upto-yes, upto-no, from-yes, from-no,
 
 pub ruleset orders = (order-yes, order-no, order-is)
 
-pub ruleset verdicts = (need-stop, need-on, after-stop, both-first, both-second, both-yes, not-true, not-false, picks, tests, calls)
+-- what is chosen by its tests
+pub ruleset choices = (picks, tests, calls, pairsIn-by, count-by, hasRoom-by, bodyVerdict-by)
 
--- ---- a row of verdicts, one at a time
-pub is-accepted : (v : Verdict) → accepted v ≡ true → v ≡ Accepted
-unfolding accepted
-is-accepted Accepted e = refl
-is-accepted BadLength e = absurd (false-true e)
-is-accepted UnknownTag e = absurd (false-true e)
-is-accepted OutOfOrder e = absurd (false-true e)
-is-accepted TooMany e = absurd (false-true e)
-is-accepted OutOfRange e = absurd (false-true e)
-is-accepted CrossedBounds e = absurd (false-true e)
-is-accepted BadList e = absurd (false-true e)
+-- ---- the first refusal of a row of verdicts
+pub first-none : (f : ℕ → Verdict) → Accepted ≡ firstOf 0 f
+unfolding firstOf
+first-none f = refl
 
-module _ (f : ℕ → Verdict) (i : ℕ) (e : out true Accepted ≡ walk i (judging f) Accepted) where
-  pub first-turn : {v : Verdict} → v ≡ f i → accepted v ≡ true → out true Accepted ≡ walk (i + 1) (judging f) Accepted
-  first-turn {v} g h = walk-call i (judging f) Accepted e (rw (← g, h, is-accepted v h))
+module _ (f : ℕ → Verdict) (i : ℕ) (e : Accepted ≡ firstOf i f) where
+  first-next : f i ≡ firstOf (suc i) f
+  unfolding firstOf accepted need
+  first-next = rw (← e)
+
+  pub first-turn : {v : Verdict} → v ≡ f i → accepted v ≡ true → Accepted ≡ firstOf (i + 1) f
+  first-turn {v} g h = rw (add-one i) (sym (is-accepted v h) ∙ g ∙ first-next)
 
   pub first-stop : {v : Verdict} (n : ℕ) → i < n → v ≡ f i → accepted v ≡ false → v ≡ firstOf n f
   unfolding firstOf
-  first-stop n l g h = ap verdict (walk-stop i n (judging f) Accepted l e (rw (← g, h)))
+  first-stop zero l g h = absurd (not-suc-le-zero l)
+  first-stop (suc n) l g h =
+      ⊎-elim (λ (d : i ≡ n). rw (← d) (g ∙ first-next))
+      (λ (m : i < n). let p = first-stop n m g h in after-stop (f n) p (rw (← p) h))
+      (eq-or-lt-of-le (le-of-suc-le-suc l))
 
   pub first-end : (n : ℕ) → i ≤ n → n ≤ i → Accepted ≡ firstOf n f
-  unfolding firstOf
-  first-end n l g = ap verdict (walk-end i n (judging f) Accepted l g e)
+  first-end n l g = let d : i ≡ n = omega arith in rw d at e
 
--- what the walk holds is accepted exactly where it goes on
-walk-holds : (f : ℕ → Verdict) (n : ℕ) (t : Bool) (v : Verdict) → walk n (judging f) Accepted ≡ out t v → accepted v ≡ t
-unfolding walk accepted
-walk-holds f zero t v e = cc
-walk-holds f (suc n) t v e = next (walk n (judging f) Accepted) (walk-holds f n) refl e
-  where
-    next : (o : Out Verdict) → ((t : Bool) (v : Verdict) → walk n (judging f) Accepted ≡ out t v → accepted v ≡ t) → walk n (judging f) Accepted ≡ o → then (judging f n) o ≡ out t v → accepted v ≡ t
-    next (out true u) h p q = cc
-    next (out false u) h p q = let z = h false u p in cc
-
--- where the first refusal is none, each was accepted
+-- where it is Accepted, each is
 pub first-each : (f : ℕ → Verdict) (n : ℕ) → accepted (firstOf n f) ≡ true → (k : ℕ) → k < n → accepted (f k) ≡ true
-unfolding walk firstOf
+unfolding firstOf
 first-each f zero e k h = absurd (not-suc-le-zero h)
-first-each f (suc n) e k h = go (walk n (judging f) Accepted) (first-each f n) refl e
-  where
-    go : (o : Out Verdict) → (accepted (verdict (walk n (judging f) Accepted)) ≡ true → (k : ℕ) → k < n → accepted (f k) ≡ true) → walk n (judging f) Accepted ≡ o → accepted (verdict (then (judging f n) o)) ≡ true → accepted (f k) ≡ true
-    go (out true u) each p q =
-        ⊎-elim (λ (d : k ≡ n). rw d q) (λ (l : k < n). each (ap (λ o. accepted (verdict o)) p ∙ walk-holds f n true u p) k l) (eq-or-lt-of-le (le-of-suc-le-suc h))
-    go (out false u) each p q = absurd (false-true (sym (walk-holds f n false u p) ∙ q))
+first-each f (suc n) e k h =
+    let p = after-held (firstOf n f) (f n) e in
+    ⊎-elim (λ (d : k ≡ n). rw d (p .1)) (λ (l : k < n). first-each f n (p .0) k l) (eq-or-lt-of-le (le-of-suc-le-suc h))
 
 -- ---- the four pairs of a body, as many as its count
 map-take : {A B : Type 0} (f : A → B) (n : ℕ) (l : List A) → map f (take n l) ≡ take n (map f l)
@@ -145,6 +162,10 @@ pub list-from : (k : ℕ) {p q r s : Pair} {a b c d : Item} → pairOf p ≡ a �
 list-from k {p} {q} {r} {s} {a} {b} {c} {d} e f g h =
     let l : map pairOf (p ∷ q ∷ r ∷ s ∷ []) ≡ a ∷ b ∷ c ∷ d ∷ [] = cc in
     map-take pairOf k (p ∷ q ∷ r ∷ s ∷ []) ∙ ap (take k) l
+
+-- ---- a body, cut at the length that a call gave
+pub body-is : (r : List ℕ) (n : ℕ) → n ≡ len r → take (3 + n - 3) (drop 3 r) ≡ body r
+body-is r n e = ap (λ m. take m (drop 3 r)) (add-sub-cancel-left 3 n ∙ e)
 
 -- ---- equal arguments
 pub body-same : {t u : ℕ} {a b : List ℕ} {m n : ℕ} (words : ℕ) → t ≡ u → a ≡ b → m ≡ n → bodyVerdict t a words m ≡ bodyVerdict u b words n

@@ -3,6 +3,8 @@ pub mod Read
 pub mod Known
 pub mod Signed
 pub mod Structs
+pub mod Entries
+pub mod Equations
 pub mod Laws
 pub mod Whole
 pub mod More

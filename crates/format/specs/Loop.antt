@@ -10,12 +10,14 @@ use lib.Seq.{take-all, drop-drop}
 use borrow.Author.Tests.{eq-eqb, ne-eqb}
 use Rattle.folds.specs.Fold.{pick-true, pick-false}
 use Rattle.block.specs.Block.{Block}
-use Rattle.format.specs.Read.{Outcome, refused, accepted, number, tag, len, headVerdict, fieldVerdict, withField, endVerdict, outcome, counts, fields, empty, read}
+use Rattle.format.specs.Read.{refused, accepted, number, tag, len, headVerdict, fieldVerdict, withField, endVerdict}
+use Rattle.format.specs.Read.{outcome, counts, fields, empty, read}
 use Rattle.format.specs.Structs.{blockOf, countsOf, Sound}
-use Rattle.format.specs.Whole.{Whole, whole, after-held}
+use Rattle.format.specs.Whole.{Whole, whole}
+use Rattle.format.specs.Laws.{after-held}
+use Rattle.format.specs.Entries.{words-length}
 use Rattle.format.specs.More.{counts-is}
-use Rattle.format.specs.declared.Block as Held
-use Rattle.format.specs.declared.Counts.{Counts}
+use Rattle.format.specs.declared.Block as Struct
 use Rattle.format.specs.declared.Verdict.{Verdict}
 
 -- r is what is left of the file s, after the fields of b, the last of which has the tag `last`
@@ -37,7 +39,8 @@ module _ (s r : List ℕ) (last : ℕ) (b : Block) where
       go zero = refl
       go (suc n) = pick-true _ _ (eq-eqb _ _ e) refl
 
-  pub left-stop : 0 < length r → accepted (fieldVerdict r last (counts b)) ≡ false → Left s r last b → refused (number (fieldVerdict r last (counts b))) ≡ read s
+  pub left-stop : 0 < length r → accepted (fieldVerdict r last (counts b)) ≡ false → Left s r last b
+      → refused (number (fieldVerdict r last (counts b))) ≡ read s
   unfolding fields
   left-stop h t l = go (l .most) (l .enough) ∙ l .same
     where
@@ -45,7 +48,8 @@ module _ (s r : List ℕ) (last : ℕ) (b : Block) where
       go zero k = absurd (omega arith)
       go (suc n) k = pick-false _ _ (ne-eqb (length r) 0 (λ e. omega arith)) (pick-false _ _ t refl)
 
-  pub left-step : 0 < length r → accepted (fieldVerdict r last (counts b)) ≡ true → Left s r last b → Left s (drop (3 + len r) r) (tag r) (withField r b)
+  pub left-step : 0 < length r → accepted (fieldVerdict r last (counts b)) ≡ true → Left s r last b
+      → Left s (drop (3 + len r) r) (tag r) (withField r b)
   unfolding fields
   left-step h t l = go (l .most) (l .enough) (l .same)
     where
@@ -57,7 +61,7 @@ module _ (s r : List ℕ) (last : ℕ) (b : Block) where
       go (suc n) k q = record { most = n; enough = omega (arith, length-drop (3 + len r) r); same = step n ∙ q }
 
 -- ---- the code's loop: `at` bytes of s are read, k holds their fields
-pub record At (s : List ℕ) (at last : ℕ) (k : Held.Block) : Type 0 where
+pub record ReadTo (s : List ℕ) (at last : ℕ) (k : Struct.Block) : Type 0 where
   pub place : at ≤ length s
   pub sound : Sound k
   pub left : Left s (drop at s) last (blockOf k)
@@ -66,10 +70,24 @@ pub record At (s : List ℕ) (at last : ℕ) (k : Held.Block) : Type 0 where
 abbrev pub rest : List ℕ → ℕ → List ℕ
 rest s at = take (length s - at) (drop at s)
 
-pub at-start : (s : List ℕ) (k : Held.Block) → blockOf k ≡ empty → Sound k → At s 0 0 k
-at-start s k e p = record { place = zero-le; sound = p; left = rw e (left-all s) }
+-- the field that begins at `at` is accepted: it is whole, and with it the file is read to its end
+pub record FieldRead (s : List ℕ) (at : ℕ) (k : Struct.Block) : Type 0 where
+  pub whole : Whole (rest s at) (countsOf k)
+  pub place : at + 3 + len (rest s at) ≤ length s
+  pub next : (q : Struct.Block) (t n : ℕ) → blockOf q ≡ withField (rest s at) (blockOf k) → Sound q → t ≡ tag (rest s at) → n ≡ len (rest s at)
+      → ReadTo s (at + 3 + n) t q
 
-module _ (s : List ℕ) (at last : ℕ) (k : Held.Block) (p : At s at last k) where
+pub read-start : (s : List ℕ) (k : Struct.Block) → blockOf k ≡ empty → Sound k → ReadTo s 0 0 k
+read-start s k e p = record { place = zero-le; sound = p; left = rw e (left-all s) }
+
+-- a refusal is the same whatever block is held
+refusal-is : (v : Verdict) (b : Block) → accepted v ≡ false → outcome v b ≡ refused (number v)
+refusal-is v b h = sym (pick-false _ _ h refl)
+
+pub refusal-any : (v : Verdict) (b k : Block) → accepted v ≡ false → outcome v b ≡ outcome v k
+refusal-any v b k h = refusal-is v b h ∙ sym (refusal-is v k h)
+
+module _ (s : List ℕ) (at last : ℕ) (k : Struct.Block) (p : ReadTo s at last k) where
   rest-is : rest s at ≡ drop at s
   rest-is = take-all (length s - at) (drop at s) (omega (arith, length-drop at s))
 
@@ -81,28 +99,29 @@ module _ (s : List ℕ) (at last : ℕ) (k : Held.Block) (p : At s at last k) wh
     some-left : 0 < length (drop at s)
     some-left = omega (arith, length-drop at s)
 
-    pub at-stop : accepted v ≡ false → outcome v (blockOf k) ≡ read s
-    at-stop h =
+    pub read-stop : accepted v ≡ false → outcome v (blockOf k) ≡ read s
+    read-stop h =
         let f = e ∙ verdict-is in
-        sym (pick-false _ _ h refl) ∙ ap (λ u. refused (number u)) f ∙ left-stop s (drop at s) last (blockOf k) some-left (ap accepted (sym f) ∙ h) (p .left)
+        refusal-is v (blockOf k) h ∙ ap (λ u. refused (number u)) f ∙ left-stop s (drop at s) last (blockOf k) some-left (ap accepted (sym f) ∙ h) (p .left)
 
-    module _ (h : accepted v ≡ true) where
-      pub at-whole : Whole (rest s at) (countsOf k)
-      unfolding fieldVerdict
-      at-whole = whole (rest s at) last (countsOf k) (after-held (headVerdict (rest s at) last (countsOf k)) _ (ap accepted (sym e) ∙ h) .0)
+    pub read-field : accepted v ≡ true → FieldRead s at k
+    unfolding fieldVerdict
+    read-field h =
+        let f = e ∙ verdict-is in
+        let g : accepted (fieldVerdict (drop at s) last (counts (blockOf k))) ≡ true = ap accepted (sym f) ∙ h in
+        let w = whole (rest s at) last (countsOf k) (after-held (headVerdict (rest s at) last (countsOf k)) _ (ap accepted (sym e) ∙ h) .0) in
+        let c : at + 3 + len (rest s at) ≤ length s = omega (arith, w .header, w .body, ap length rest-is, length-drop at s) in
+        record {
+          whole = w;
+          place = c;
+          next = λ q t n b o a l.
+              let m : at + (3 + len (drop at s)) ≡ at + 3 + n = omega (arith, l, ap len rest-is) in
+              let d : drop (3 + len (drop at s)) (drop at s) ≡ drop (at + 3 + n) s = drop-drop (3 + len (drop at s)) at s ∙ ap (λ j. drop j s) m in
+              let r = left-step s (drop at s) last (blockOf k) some-left g (p .left) in
+              record { place = omega (arith, c, l); sound = o; left = rw (b, a, rest-is, ← d) r };
+        }
 
-      pub at-place : at + 3 + len (rest s at) ≤ length s
-      at-place = let w = at-whole in omega (arith, w .header, w .body, ap length rest-is, length-drop at s)
-
-      pub at-next : (q : Held.Block) (t n : ℕ) → blockOf q ≡ withField (rest s at) (blockOf k) → Sound q → t ≡ tag (rest s at) → n ≡ len (rest s at) → At s (at + 3 + n) t q
-      at-next q t n b o a l =
-          let f = e ∙ verdict-is in
-          let m : at + (3 + len (drop at s)) ≡ at + 3 + n = omega (arith, l, ap len rest-is) in
-          let d : drop (3 + len (drop at s)) (drop at s) ≡ drop (at + 3 + n) s = drop-drop (3 + len (drop at s)) at s ∙ ap (λ j. drop j s) m in
-          record { place = omega (arith, at-place, l); sound = o; left = rw (b, a, rest-is, ← d) (left-step s (drop at s) last (blockOf k) some-left (ap accepted (sym f) ∙ h) (p .left)) }
-
-  pub at-end : length s ≤ at → (v : Verdict) → v ≡ endVerdict last (k .words) → outcome v (blockOf k) ≡ read s
-  unfolding counts
-  at-end l v e =
-      let w = ap (λ (c : Counts). c .words) (counts-is k (p .sound)) in
-      ap (λ u. outcome u (blockOf k)) (e ∙ ap (endVerdict last) (sym w)) ∙ left-end s (drop at s) last (blockOf k) (omega (arith, length-drop at s)) (p .left)
+  pub read-end : length s ≤ at → (v : Verdict) → v ≡ endVerdict last (k .words) → outcome v (blockOf k) ≡ read s
+  read-end l v e =
+      ap (λ u. outcome u (blockOf k)) (e ∙ ap (endVerdict last) (sym (words-length (p .sound))))
+      ∙ left-end s (drop at s) last (blockOf k) (omega (arith, length-drop at s)) (p .left)

@@ -1,14 +1,15 @@
 -- What a list of bytes is as a block file: a block, or a refusal by its number. Document 01, "The block file" and "Refusal table".
 -- A field is first judged, then taken: the verdict is on bytes and tests alone, and what a field holds is looked at only where it is Accepted.
-use mathlib.Core.Bool.{Bool, true, false, not, cond}
+use mathlib.Core.Bool.{Bool, true, false, not}
 use mathlib.Core.List.{List, [], _∷_, _++_}
 use Prim.Native.Nat.{ℕ, zero, suc, _+_, _*_, _-_}
 use lib.ListN.{length, getD, take, drop}
 use lib.Dec.{ltb, leb, eqb}
 use lib.IntN.{ℤ, pos, negℤ, _-ℤ_}
 use lib.Signed.{leZ}
-use Rattle.folds.specs.Fold.{Out, out, walk, pick, both}
+use Rattle.folds.specs.Fold.{pick, both}
 use Rattle.block.specs.Block.{Word, Item, Tempo, Anchor, Span, Block}
+use Rattle.block.specs.Ranges.{maxWords, maxTempos, maxAnchors, maxSpans, maxTime, maxSlope, maxWeight, maxCoef, maxSum}
 use Rattle.format.specs.declared.Counts.{Counts}
 use Rattle.format.specs.declared.Verdict.{Verdict}
 use Rattle.format.specs.declared.Verdict.the-variants.{Accepted, BadLength, UnknownTag, OutOfOrder, TooMany, OutOfRange, CrossedBounds, BadList}
@@ -73,7 +74,7 @@ i8At s i = signed 128 (byteAt s i)
 unfoldable pub i32At : List ℕ → ℕ → ℤ
 i32At s i = signed 2147483648 (u32At s i)
 
--- ---- the tags, "1 word, 1 to 32", "2 tempo, 0 to 64", "3 anchor, 0 to 8", "4 span, 0 to 16", "5 cap, one, last"
+-- ---- the tags, "1 word", "2 tempo", "3 anchor", "4 span", "5 cap, one, last"
 abbrev pub wordTag : ℕ
 wordTag = 1
 
@@ -89,35 +90,7 @@ spanTag = 4
 abbrev pub capTag : ℕ
 capTag = 5
 
-abbrev pub maxWords : ℕ
-maxWords = 32
-
-abbrev pub maxTempos : ℕ
-maxTempos = 64
-
-abbrev pub maxAnchors : ℕ
-maxAnchors = 8
-
-abbrev pub maxSpans : ℕ
-maxSpans = 16
-
 -- ---- the ranges. A number from 0 or 1 up is judged without its sign: read so, a negative one is above every range (Signed.antt)
-abbrev pub maxTime : ℕ
-maxTime = 262144
-
-abbrev pub maxSlope : ℕ
-maxSlope = 65535
-
-abbrev pub maxWeight : ℕ
-maxWeight = 64
-
-abbrev pub maxCoef : ℕ
-maxCoef = 8
-
--- "Targets, values and span ends lie within ±8,388,608", a cap from 0 to it
-abbrev pub maxSum : ℕ
-maxSum = 8388608
-
 abbrev pub upTo : ℕ → ℕ → Bool
 upTo most n = leb n most
 
@@ -125,8 +98,8 @@ abbrev pub oneTo : ℕ → ℕ → Bool
 oneTo most n = both (leb 1 n) (leb n most)
 
 -- from -most to most
-unfoldable pub within : ℕ → ℤ → Bool
-within most z = both (leZ (negℤ (pos most)) z) (leZ z (pos most))
+unfoldable pub sizeUpTo : ℕ → ℤ → Bool
+sizeUpTo most z = both (leZ (negℤ (pos most)) z) (leZ z (pos most))
 
 unfoldable pub isZero : ℤ → Bool
 isZero z = both (leZ z (pos 0)) (leZ (pos 0) z)
@@ -140,19 +113,14 @@ unfoldable pub pairVerdict : List ℕ → ℕ → ℕ → ℕ → Verdict
 pairVerdict b p words i =
     need (ltb (byteAt b (p + 2 * i + 1)) words) BadList
     (need (rises b p i) BadList
-    (need (within maxCoef (i8At b (p + 2 * i + 2))) OutOfRange
+    (need (sizeUpTo maxCoef (i8At b (p + 2 * i + 2))) OutOfRange
     (need (not (isZero (i8At b (p + 2 * i + 2)))) OutOfRange
     Accepted)))
 
--- the first refusal of f 0, f 1, .., f (n - 1), or Accepted: a walk that goes on where its index is Accepted
-abbrev pub judging : (ℕ → Verdict) → ℕ → Verdict → Out Verdict
-judging f i v = out (accepted (f i)) (f i)
-
-abbrev pub verdict : Out Verdict → Verdict
-verdict (out on v) = v
-
+-- the first refusal of f 0, f 1, .., f (n - 1), or Accepted
 unfoldable pub firstOf : ℕ → (ℕ → Verdict) → Verdict
-firstOf n f = verdict (walk n (judging f) Accepted)
+firstOf zero f = Accepted
+firstOf (suc n) f = after (firstOf n f) (f n)
 
 -- "a count that disagrees with a fitting length is 7": `count` is the length's
 unfoldable pub listVerdict : List ℕ → ℕ → ℕ → ℕ → Verdict
@@ -176,38 +144,38 @@ wordVerdict b =
     (need (leb (u32At b 0) (u32At b 4)) CrossedBounds
     Accepted)))))
 
-unfoldable pub wordFrom : List ℕ → Word
+abbrev pub wordFrom : List ℕ → Word
 wordFrom b = record { lower = u32At b 0; upper = u32At b 4; key = u32At b 8; start = u32At b 12; slope = u32At b 16 }
 
 -- "2 tempo: weight (16-bit, 1 to 64), target, list"
 unfoldable pub tempoVerdict : List ℕ → ℕ → ℕ → Verdict
 tempoVerdict b words count =
     need (oneTo maxWeight (u16At b 0)) OutOfRange
-    (need (within maxSum (i32At b 2)) OutOfRange
+    (need (sizeUpTo maxSum (i32At b 2)) OutOfRange
     (listVerdict b 6 words count))
 
-unfoldable pub tempoFrom : List ℕ → ℕ → Tempo
+abbrev pub tempoFrom : List ℕ → ℕ → Tempo
 tempoFrom b count = record { weight = u16At b 0; target = i32At b 2; list = listFrom b 6 count }
 
 -- "3 anchor: value, list"
 unfoldable pub anchorVerdict : List ℕ → ℕ → ℕ → Verdict
 anchorVerdict b words count =
-    need (within maxSum (i32At b 0)) OutOfRange
+    need (sizeUpTo maxSum (i32At b 0)) OutOfRange
     (listVerdict b 4 words count)
 
-unfoldable pub anchorFrom : List ℕ → ℕ → Anchor
+abbrev pub anchorFrom : List ℕ → ℕ → Anchor
 anchorFrom b count = record { value = i32At b 0; list = listFrom b 4 count }
 
 -- "4 span: lower, upper, list"
 unfoldable pub spanVerdict : List ℕ → ℕ → ℕ → Verdict
 spanVerdict b words count =
-    need (within maxSum (i32At b 0)) OutOfRange
-    (need (within maxSum (i32At b 4)) OutOfRange
+    need (sizeUpTo maxSum (i32At b 0)) OutOfRange
+    (need (sizeUpTo maxSum (i32At b 4)) OutOfRange
     (after (listVerdict b 8 words count)
     (need (leZ (i32At b 0) (i32At b 4)) CrossedBounds
     Accepted)))
 
-unfoldable pub spanFrom : List ℕ → ℕ → Span
+abbrev pub spanFrom : List ℕ → ℕ → Span
 spanFrom b count = record { lower = i32At b 0; upper = i32At b 4; list = listFrom b 8 count }
 
 -- "5 cap: 0 to 8,388,608"
@@ -217,7 +185,12 @@ capVerdict b = need (upTo maxSum (u32At b 0)) OutOfRange Accepted
 -- ---- "A length that fits no count of its tag is 1"
 -- the count of the list in a body of n bytes, `fixed` of which stand before its pairs; 0 where none fits
 unfoldable pub pairsIn : ℕ → ℕ → ℕ
-pairsIn fixed n = pick (eqb n (fixed + 2)) 1 (pick (eqb n (fixed + 4)) 2 (pick (eqb n (fixed + 6)) 3 (pick (eqb n (fixed + 8)) 4 0)))
+pairsIn fixed n =
+    pick (eqb n (fixed + 2)) 1
+    (pick (eqb n (fixed + 4)) 2
+    (pick (eqb n (fixed + 6)) 3
+    (pick (eqb n (fixed + 8)) 4
+    0)))
 
 -- the count of a field of tag t and length n, 1 for a tag without a list; 0 where the tag has no such length
 unfoldable pub count : ℕ → ℕ → ℕ
@@ -290,7 +263,7 @@ withBody t b n k =
     (pick (eqb t spanTag) (withSpan (spanFrom b n) k)
     (withCap (u32At b 0) k))))
 
-unfoldable pub withField : List ℕ → Block → Block
+abbrev pub withField : List ℕ → Block → Block
 withField r k = withBody (tag r) (body r) (countOf r) k
 
 -- ---- the file. "Fields are judged left to right"

@@ -1,5 +1,5 @@
 -- How the code's structs hold a block: `blockOf` is document 01's block that a `Block` of the code stands for, `readOf` what an `Answer` says.
-use mathlib.Core.Path.{_≡_, refl, sym, _∙_, ap}
+use mathlib.Core.Path.{_≡_, refl, ap}
 use mathlib.Core.List.{List, [], _∷_, _++_, map}
 use Prim.Native.Nat.{ℕ, zero, suc, _+_, _≤_, _<_}
 use native.Mathlib.Numerals.{add-one}
@@ -7,6 +7,7 @@ use native.Mathlib.Nat.{le-of-suc-le-suc, not-suc-le-zero}
 use lib.ListN.{length, take, set, getD}
 use lib.IntN.{pos}
 use Rattle.block.specs.Block as Spec
+use Rattle.block.specs.Ranges.{maxWords, maxTempos, maxAnchors, maxSpans, maxPairs}
 use Rattle.format.specs.Read.{Outcome, outcome}
 use Rattle.format.specs.declared.Word.{Word}
 use Rattle.format.specs.declared.Pair.{Pair}
@@ -37,7 +38,14 @@ abbrev pub spanOf : Span → Spec.Span
 spanOf s = record { lower = s .lower; upper = s .upper; list = listOf (s .list) }
 
 unfoldable pub blockOf : Block → Spec.Block
-blockOf b = record { words = map wordOf (take (b .words) (b .word)); tempos = map tempoOf (take (b .tempos) (b .tempo)); anchors = map anchorOf (take (b .anchors) (b .anchor)); spans = map spanOf (take (b .spans) (b .span)); cap = b .cap }
+blockOf b =
+    record {
+      words = map wordOf (take (b .words) (b .word));
+      tempos = map tempoOf (take (b .tempos) (b .tempo));
+      anchors = map anchorOf (take (b .anchors) (b .anchor));
+      spans = map spanOf (take (b .spans) (b .span));
+      cap = b .cap;
+    }
 
 abbrev pub countsOf : Block → Counts
 countsOf b = record { words = b .words; tempos = b .tempos; anchors = b .anchors; spans = b .spans }
@@ -47,11 +55,17 @@ readOf a = outcome (a .verdict) (blockOf (a .block))
 
 -- ---- the arrays: as long as their types have them, and no count above its array's length
 pub record Filled (l : Pairs) : Type 0 where
-  pub count : l .count ≤ 4
-  pub pair : length (l .pair) ≡ 4
+  pub count : l .count ≤ maxPairs
+  pub pair : length (l .pair) ≡ maxPairs
 
 abbrev pub noPairs : Pairs
 noPairs = record { count = 0; pair = [] }
+
+abbrev pub pairAt : Pairs → ℕ → Pair
+pairAt l k = getD (l .pair) k (record { word = 0; coef = pos 0 })
+
+abbrev pub wordAt : Block → ℕ → Word
+wordAt b i = getD (b .word) i (record { lower = 0; upper = 0; key = 0; start = 0; slope = 0 })
 
 abbrev pub tempoAt : Block → ℕ → Tempo
 tempoAt b j = getD (b .tempo) j (record { weight = 0; target = pos 0; list = noPairs })
@@ -63,14 +77,14 @@ abbrev pub spanAt : Block → ℕ → Span
 spanAt b k = getD (b .span) k (record { lower = pos 0; upper = pos 0; list = noPairs })
 
 pub record Sound (b : Block) : Type 0 where
-  pub words : b .words ≤ 32
-  pub tempos : b .tempos ≤ 64
-  pub anchors : b .anchors ≤ 8
-  pub spans : b .spans ≤ 16
-  pub word : length (b .word) ≡ 32
-  pub tempo : length (b .tempo) ≡ 64
-  pub anchor : length (b .anchor) ≡ 8
-  pub span : length (b .span) ≡ 16
+  pub words : b .words ≤ maxWords
+  pub tempos : b .tempos ≤ maxTempos
+  pub anchors : b .anchors ≤ maxAnchors
+  pub spans : b .spans ≤ maxSpans
+  pub word : length (b .word) ≡ maxWords
+  pub tempo : length (b .tempo) ≡ maxTempos
+  pub anchor : length (b .anchor) ≡ maxAnchors
+  pub span : length (b .span) ≡ maxSpans
   pub tempo-list : (j : ℕ) → j < b .tempos → Filled (tempoAt b j .list)
   pub anchor-list : (k : ℕ) → k < b .anchors → Filled (anchorAt b k .list)
   pub span-list : (k : ℕ) → k < b .spans → Filled (spanAt b k .list)

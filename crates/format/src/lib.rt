@@ -102,7 +102,7 @@ pub struct Counts {
     pub spans: usize,
 }
 
-// The block is the file's where the verdict is Accepted.
+// The block is the file's where the verdict is Accepted, else the empty one.
 pub struct Answer {
     pub verdict: Verdict,
     pub block: Block,

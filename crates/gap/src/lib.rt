@@ -5,19 +5,21 @@ use exact::move_of;
 use exact::slope_of;
 use exact::time_at;
 use format::Block;
+use format::Pairs;
 use format::Span;
 use format::Word;
 ghost use mathlib.Core.Path.{_≡_};
-ghost use Prim.Native.Nat.{_≤_, _<_};
-ghost use lib.ListN.{length};
+ghost use Prim.Native.Nat.{_+_, _≤_, _<_};
 ghost use lib.IntN.{_*ℤ_};
 ghost use Rattle.ints.specs.Bound.{_≼_};
 ghost use Rattle.ints.specs.Diff.{minℤ, maxℤ};
-ghost use Rattle.block.specs.Gap.{g, anchorPart, spanPart, line, candidates, least, ownPart, own, words, values, ends, gap};
-ghost use Rattle.block.specs.Ranges.{RangedWord};
-ghost use Rattle.format.specs.Structs.{wordOf, blockOf};
+ghost use Rattle.ints.specs.Sum.{Σ};
+ghost use Rattle.block.specs.Gap.{price, g, coefOf, line, candidates, least, wordGap, wordGapOf, wordGaps, values, ends, gap};
+ghost use Rattle.block.specs.Ranges.{Ranged, RangedWord};
+ghost use Rattle.format.specs.Structs.{Filled, Sound, listOf, wordOf, blockOf};
 ghost use Rattle.exact.specs.Planned.{Planned};
-ghost use Rattle.gap.specs.Handed.{pricesOf, Handed, Ready};
+ghost use Rattle.gap.specs.Prices.{anchorPrices, spanPrices, pricesWith, pricesFrom, pricedList};
+ghost use Rattle.gap.specs.Input.{PriceList, GapInput, PlanAndPrices};
 
 fn smaller(a: i64, b: i64) -> i64
     ensures { λ r. ⌜ r ≡ minℤ a b ⌝ }
@@ -70,74 +72,76 @@ fn half_slope(b: Block, times: &[i32], i: usize) -> i64
     sum
 }
 
-// Anchor price × coefficient of word i, added up.
-fn anchor_part(b: Block, prices: &[i64], i: usize) -> i64
-    requires { ⌜ Handed b (now prices) (b .anchors) ⌝ }
-    ensures { λ r. ⌜ r ≡ anchorPart (blockOf b) (now (prices .entry)) i ⌝ }
+// The list that price k belongs to: an anchor's, then a span's.
+fn priced_list(b: Block, k: usize) -> Pairs
+    requires { ⌜ Sound b ⌝ }
+    requires { ⌜ k < b .anchors + b .spans ⌝ }
+    ensures { λ l. ⌜ (listOf l ≡ pricedList (blockOf b) k) × Filled l ⌝ }
 {
-    let mut sum: i64 = 0;
     let n = b.anchors;
-    for k in 0..n {
+    if k < n {
         let a = b.anchor[k];
         let l = a.list;
-        sum += prices[k] * coef_of(i, l);
+        return l;
     }
-    sum
+    let j = k - n;
+    let s = b.span[j];
+    let l = s.list;
+    l
 }
 
-// Span price × coefficient of word i, added up.
-fn span_part(b: Block, prices: &[i64], i: usize) -> i64
-    requires { ⌜ Handed b (now prices) (b .spans) ⌝ }
-    ensures { λ r. ⌜ r ≡ spanPart (blockOf b) (now (prices .entry)) i ⌝ }
+// Each anchor or span price × coefficient of word i, added up.
+fn price_part(b: Block, prices: &[i64], i: usize) -> i64
+    requires { ⌜ PriceList b (now prices) ⌝ }
+    ensures { λ r. ⌜ r ≡ Σ (b .anchors + b .spans) (λ k. price (now (prices .entry)) k *ℤ coefOf i (pricedList (blockOf b) k)) ⌝ }
 {
     let mut sum: i64 = 0;
-    let n = b.spans;
+    let n = b.anchors + b.spans;
     for k in 0..n {
-        let s = b.span[k];
-        let l = s.list;
+        let l = priced_list(b, k);
         sum += prices[k] * coef_of(i, l);
     }
     sum
 }
 
 // g × time + slope × |time - key| - the least
-fn own_part(w: Word, g: i64, h: i64, cap: u64, x: i64) -> i64
+fn word_gap(w: Word, g: i64, h: i64, cap: u64, x: i64) -> i64
     requires { ⌜ RangedWord (wordOf w) ⌝ }
     requires { ⌜ (g ≼ 2199023255552) × (h ≼ 5497558138880) × (cap ≤ 4294967296) × (x ≼ 262144) ⌝ }
-    ensures { λ r. ⌜ r ≡ ownPart (wordOf w) g h cap x ⌝ }
+    ensures { λ r. ⌜ r ≡ wordGap (wordOf w) g h cap x ⌝ }
 {
     g * x + bend(w, x) - least(w, h, cap)
 }
 
 // Word i's part of the gap.
-fn own(b: Block, times: &[i32], pa: &[i64], ps: &[i64], cap: u64, i: usize) -> i64
-    requires { ⌜ Ready b (now times) (now pa) (now ps) cap ⌝ }
+fn word_gap_of(b: Block, times: &[i32], prices: &[i64], cap: u64, i: usize) -> i64
+    requires { ⌜ GapInput b (now times) (now prices) cap ⌝ }
     requires { ⌜ i < b .words ⌝ }
-    ensures { λ r. ⌜ r ≡ own (blockOf b) (now (times .entry)) (pricesOf (now (pa .entry)) (now (ps .entry)) cap) i ⌝ }
+    ensures { λ r. ⌜ r ≡ wordGapOf (blockOf b) (now (times .entry)) (pricesWith (blockOf b) (now (prices .entry)) cap) i ⌝ }
 {
     let w = b.word[i];
     let g = half_slope(b, times, i);
-    let h = g + anchor_part(b, pa, i) + span_part(b, ps, i);
-    own_part(w, g, h, cap, time_at(times, i))
+    let h = g + price_part(b, prices, i);
+    word_gap(w, g, h, cap, time_at(times, i))
 }
 
 // The words' parts, added up.
-fn words(b: Block, times: &[i32], pa: &[i64], ps: &[i64], cap: u64) -> i64
-    requires { ⌜ Ready b (now times) (now pa) (now ps) cap ⌝ }
-    ensures { λ r. ⌜ r ≡ words (blockOf b) (now (times .entry)) (pricesOf (now (pa .entry)) (now (ps .entry)) cap) ⌝ }
+fn word_gaps(b: Block, times: &[i32], prices: &[i64], cap: u64) -> i64
+    requires { ⌜ GapInput b (now times) (now prices) cap ⌝ }
+    ensures { λ r. ⌜ r ≡ wordGaps (blockOf b) (now (times .entry)) (pricesWith (blockOf b) (now (prices .entry)) cap) ⌝ }
 {
     let mut sum: i64 = 0;
     let n = b.words;
     for i in 0..n {
-        sum += own(b, times, pa, ps, cap, i);
+        sum += word_gap_of(b, times, prices, cap, i);
     }
     sum
 }
 
 // Each anchor price × value, added up.
 fn values(b: Block, prices: &[i64]) -> i64
-    requires { ⌜ Handed b (now prices) (b .anchors) ⌝ }
-    ensures { λ r. ⌜ r ≡ values (blockOf b) (now (prices .entry)) ⌝ }
+    requires { ⌜ PriceList b (now prices) ⌝ }
+    ensures { λ r. ⌜ r ≡ values (blockOf b) (anchorPrices (blockOf b) (now (prices .entry))) ⌝ }
 {
     let mut sum: i64 = 0;
     let n = b.anchors;
@@ -158,23 +162,36 @@ fn end_of(p: i64, s: Span) -> i64
 
 // The same for each span, added up.
 fn ends(b: Block, prices: &[i64]) -> i64
-    requires { ⌜ Handed b (now prices) (b .spans) ⌝ }
-    ensures { λ r. ⌜ r ≡ ends (blockOf b) (now (prices .entry)) ⌝ }
+    requires { ⌜ PriceList b (now prices) ⌝ }
+    ensures { λ r. ⌜ r ≡ ends (blockOf b) (spanPrices (blockOf b) (now (prices .entry))) ⌝ }
 {
     let mut sum: i64 = 0;
+    let a = b.anchors;
     let n = b.spans;
     for k in 0..n {
         let s = b.span[k];
-        sum += end_of(prices[k], s);
+        sum += end_of(prices[a + k], s);
     }
     sum
 }
 
-// The gap of the plan `times` and the prices of the anchors, the spans and the cap.
-pub fn gap(b: Block, times: &[i32], pa: &[i64], ps: &[i64], cap: u64) -> i64
-    requires { ⌜ Ready b (now times) (now pa) (now ps) cap ⌝ }
-    ensures { λ r. ⌜ r ≡ gap (blockOf b) (now (times .entry)) (pricesOf (now (pa .entry)) (now (ps .entry)) cap) ⌝ }
+// The gap of the plan `times`, the prices of the anchors and spans, and the cap's.
+fn gap(b: Block, times: &[i32], prices: &[i64], cap: u64) -> i64
+    requires { ⌜ GapInput b (now times) (now prices) cap ⌝ }
+    ensures { λ r. ⌜ r ≡ gap (blockOf b) (now (times .entry)) (pricesWith (blockOf b) (now (prices .entry)) cap) ⌝ }
 {
     let c = (cap as i64) * (b.cap as i64);
-    2 * words(b, times, pa, ps, cap) + 2 * values(b, pa) + 2 * ends(b, ps) + 2 * c
+    2 * word_gaps(b, times, prices, cap) + 2 * values(b, prices) + 2 * ends(b, prices) + 2 * c
+}
+
+// The gap of a plan and prices in one list: anchors, spans, cap.
+pub fn gap_of(b: Block, times: &[i32], prices: &[i64]) -> i64
+    requires { ⌜ Sound b ⌝ }
+    requires { ⌜ Ranged (blockOf b) ⌝ }
+    requires { ⌜ PlanAndPrices (blockOf b) (now times) (now prices) ⌝ }
+    ensures { λ r. ⌜ r ≡ gap (blockOf b) (now (times .entry)) (pricesFrom (blockOf b) (now (prices .entry))) ⌝ }
+{
+    let n = b.anchors + b.spans;
+    let cap = prices[n] as u64;
+    gap(b, times, prices, cap)
 }

@@ -2,6 +2,7 @@
 ghost use mathlib.Core.Path.{_≡_};
 ghost use Prim.Native.Nat.{_≤_, _<_};
 ghost use lib.Signed.{leZ};
+ghost use Rattle.block.specs.Ranges.{maxSum};
 ghost use Rattle.format.specs.Read as Read;
 use format::Verdict;
 
@@ -58,9 +59,9 @@ pub fn i32_at(b: &[u8], i: usize) -> i64
 }
 
 // Whether z is from -most to most.
-pub fn within(most: u64, z: i64) -> bool
-    requires { ⌜ most ≤ 8388608 ⌝ }
-    ensures { λ r. ⌜ r ≡ Read.within most z ⌝ }
+pub fn size_up_to(most: u64, z: i64) -> bool
+    requires { ⌜ most ≤ maxSum ⌝ }
+    ensures { λ r. ⌜ r ≡ Read.sizeUpTo most z ⌝ }
 {
     let m = most as i64;
     if 0 - m <= z { z <= m } else { false }
@@ -72,11 +73,11 @@ pub fn is_zero(z: i64) -> bool
     if z <= 0 { 0 <= z } else { false }
 }
 
-pub fn i8_within(most: u64, b: &[u8], i: usize) -> bool
-    requires { ⌜ most ≤ 8388608 ⌝ }
-    ensures { λ r. ⌜ r ≡ Read.within most (Read.i8At (now (b .entry)) i) ⌝ }
+pub fn i8_size_up_to(most: u64, b: &[u8], i: usize) -> bool
+    requires { ⌜ most ≤ maxSum ⌝ }
+    ensures { λ r. ⌜ r ≡ Read.sizeUpTo most (Read.i8At (now (b .entry)) i) ⌝ }
 {
-    within(most, i8_at(b, i))
+    size_up_to(most, i8_at(b, i))
 }
 
 pub fn i8_is_zero(b: &[u8], i: usize) -> bool
@@ -85,11 +86,11 @@ pub fn i8_is_zero(b: &[u8], i: usize) -> bool
     is_zero(i8_at(b, i))
 }
 
-pub fn i32_within(most: u64, b: &[u8], i: usize) -> bool
-    requires { ⌜ (most ≤ 8388608) × (i ≤ 30) ⌝ }
-    ensures { λ r. ⌜ r ≡ Read.within most (Read.i32At (now (b .entry)) i) ⌝ }
+pub fn i32_size_up_to(most: u64, b: &[u8], i: usize) -> bool
+    requires { ⌜ (most ≤ maxSum) × (i ≤ 30) ⌝ }
+    ensures { λ r. ⌜ r ≡ Read.sizeUpTo most (Read.i32At (now (b .entry)) i) ⌝ }
 {
-    within(most, i32_at(b, i))
+    size_up_to(most, i32_at(b, i))
 }
 
 // Whether the number at i is at most that at j.

@@ -4,59 +4,61 @@ use mathlib.Core.Bool.{Bool}
 use mathlib.Core.List.{List}
 use Prim.Native.Nat.{ℕ, _+_}
 use lib.Dec.{eqb}
-use lib.ListN.{length, take, drop, getD}
-use lib.IntN.{ℤ, pos, negℤ, natAbs}
+use lib.ListN.{length}
+use lib.IntN.{ℤ, pos, negℤ}
 use lib.Signed.{leZ}
 use Rattle.folds.specs.Fold.{all, both, pick}
 use Rattle.block.specs.Block.{Block}
 use Rattle.block.specs.Plan.{time}
-use Rattle.block.specs.Gap.{Prices, price, gap}
+use Rattle.block.specs.Gap.{price, gap}
+use Rattle.block.specs.Ranges.{maxTime, maxPrice}
 use Rattle.format.specs.Read.{Outcome, read}
+use Rattle.gap.specs.Prices.{priceCount, pricesFrom}
 
 pub data Checked : Type 0 where
   gapIs : ℤ → Checked
   refused : ℕ → Checked
 
 -- ---- ranges
-unfoldable pub within : ℤ → ℤ → ℤ → Bool
-within lower upper z = both (leZ lower z) (leZ z upper)
+unfoldable pub between : ℤ → ℤ → ℤ → Bool
+between lower upper z = both (leZ lower z) (leZ z upper)
 
 -- "times (0 to 262,144)"
 unfoldable pub timesIn : List ℤ → Bool
-timesIn x = all (length x) (λ i. within (pos 0) (pos 262144) (time x i))
+timesIn x = all (length x) (λ i. between (pos 0) (pos maxTime) (time x i))
 
 -- "held within ±4,294,967,296 (cap from 0)"
 unfoldable pub pricesIn : ℕ → List ℤ → Bool
-pricesIn n p = all n (λ k. within (negℤ (pos 4294967296)) (pos 4294967296) (price p k))
+pricesIn n p = all n (λ k. between (negℤ (pos maxPrice)) (pos maxPrice) (price p k))
 
 unfoldable pub capIn : ℤ → Bool
-capIn z = within (pos 0) (pos 4294967296) z
+capIn z = between (pos 0) (pos maxPrice) z
 
 -- "gap outside signed 64 bits"
 unfoldable pub fits64 : ℤ → Bool
-fits64 z = within (negℤ (pos 9223372036854775808)) (pos 9223372036854775807) z
+fits64 z = between (negℤ (pos 9223372036854775808)) (pos 9223372036854775807) z
 
--- ---- "anchors, spans, cap"
-abbrev pub priced : Block → ℕ
-priced b = length (b .anchors) + length (b .spans)
+-- ---- refusals by their numbers, 0 where there is none, for a block of n words, and m anchors and spans
+-- 9, "as many times or prices as the block hasn't"
+unfoldable pub countRefusal : ℕ → ℕ → List ℤ → List ℤ → ℕ
+countRefusal n m x p = pick (both (eqb (length x) n) (eqb (length p) (m + 1))) 0 9
 
-unfoldable pub pricesFrom : Block → List ℤ → Prices
-pricesFrom b p = record { anchors = take (length (b .anchors)) p; spans = take (length (b .spans)) (drop (length (b .anchors)) p); cap = natAbs (price p (priced b)) }
+unfoldable pub timeRefusal : List ℤ → ℕ
+timeRefusal x = pick (timesIn x) 0 5
 
--- ---- 9, "as many times or prices as the block hasn't", then 5 for times and prices in their order; 0 where neither is given
--- for a block of n words, and m anchors and spans
+unfoldable pub priceRefusal : ℕ → List ℤ → ℕ
+priceRefusal m p = pick (both (pricesIn m p) (capIn (price p m))) 0 5
+
+-- the earlier of two, where it refuses
+unfoldable pub earlier : ℕ → ℕ → ℕ
+earlier a b = pick (eqb a 0) b a
+
+-- "9, times (0 to 262,144) and prices 5"
 unfoldable pub refusalFor : ℕ → ℕ → List ℤ → List ℤ → ℕ
-refusalFor n m x p =
-    pick (eqb (length x) n)
-    (pick (eqb (length p) (m + 1))
-    (pick (timesIn x)
-    (pick (pricesIn m p)
-    (pick (capIn (price p m))
-    0
-    5) 5) 5) 9) 9
+refusalFor n m x p = earlier (earlier (countRefusal n m x p) (timeRefusal x)) (priceRefusal m p)
 
 abbrev pub refusalOf : Block → List ℤ → List ℤ → ℕ
-refusalOf b x p = refusalFor (length (b .words)) (priced b) x p
+refusalOf b x p = refusalFor (length (b .words)) (priceCount b) x p
 
 -- then 15
 unfoldable pub checkBlock : Block → List ℤ → List ℤ → Checked
@@ -74,10 +76,10 @@ unfoldable pub check : List ℕ → List ℤ → List ℤ → Checked
 check s x p = checkRead (read s) x p
 
 -- ---- "A refusal is its number only; lent slices are untouched."
-unfoldable pub number : Checked → ℕ
-number (gapIs z) = 0
-number (refused n) = n
+unfoldable pub resultOf : Checked → ℕ
+resultOf (gapIs z) = 0
+resultOf (refused n) = n
 
-unfoldable pub gapOr : Checked → ℤ → ℤ
-gapOr (gapIs z) old = z
-gapOr (refused n) old = old
+unfoldable pub gapAfter : Checked → ℤ → ℤ
+gapAfter (gapIs z) old = z
+gapAfter (refused n) old = old

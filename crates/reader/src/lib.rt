@@ -1,12 +1,11 @@
 // Reads a block file.
 ghost use mathlib.Core.Path.{_≡_};
-ghost use mathlib.Core.Bool.{true};
-ghost use Prim.Native.Nat.{ℕ, _+_, _≤_, _<_};
-ghost use lib.ListN.{length};
+ghost use mathlib.Core.Bool.{true, false};
+ghost use Prim.Native.Nat.{_≤_};
 ghost use Rattle.format.specs.Read as Read;
-ghost use Rattle.format.specs.Structs.{wordOf, tempoOf, anchorOf, spanOf, blockOf, countsOf, readOf, Filled, Sound};
+ghost use Rattle.format.specs.Structs.{blockOf, countsOf, readOf, Sound};
 ghost use Rattle.format.specs.Whole.{Whole};
-ghost use Rattle.block.specs.Ranges.{Ranged};
+ghost use Rattle.block.specs.Ranges.{Ranged, maxPairs};
 use format::Anchor;
 use format::Answer;
 use format::Block;
@@ -29,7 +28,7 @@ fn empty() -> Block
         slope: 0,
     };
     let no_pair = Pair { word: 0, coef: 0 };
-    let pair = [no_pair; 4];
+    let pair = [no_pair; format::MAX_PAIRS];
     let list = Pairs {
         count: 0,
         pair: pair,
@@ -48,10 +47,10 @@ fn empty() -> Block
         upper: 0,
         list: list,
     };
-    let word = [no_word; 32];
-    let tempo = [no_tempo; 64];
-    let anchor = [no_anchor; 8];
-    let span = [no_span; 16];
+    let word = [no_word; format::MAX_WORDS];
+    let tempo = [no_tempo; format::MAX_TEMPOS];
+    let anchor = [no_anchor; format::MAX_ANCHORS];
+    let span = [no_span; format::MAX_SPANS];
     Block {
         words: 0,
         word: word,
@@ -65,81 +64,38 @@ fn empty() -> Block
     }
 }
 
-fn with_word(w: Word, b: Block) -> Block
-    requires { ⌜ Sound b ⌝ }
-    requires { ⌜ b .words < 32 ⌝ }
-    ensures { λ k. ⌜ (blockOf k ≡ Read.withWord (wordOf w) (blockOf b)) × Sound k ⌝ }
-{
-    let mut k = b;
-    let n = k.words;
-    k.word[n] = w;
-    k.words = n + 1;
-    k
-}
-
-fn with_tempo(t: Tempo, b: Block) -> Block
-    requires { ⌜ Sound b ⌝ }
-    requires { ⌜ b .tempos < 64 ⌝ }
-    requires { ⌜ Filled (t .list) ⌝ }
-    ensures { λ k. ⌜ (blockOf k ≡ Read.withTempo (tempoOf t) (blockOf b)) × Sound k ⌝ }
-{
-    let mut k = b;
-    let n = k.tempos;
-    k.tempo[n] = t;
-    k.tempos = n + 1;
-    k
-}
-
-fn with_anchor(a: Anchor, b: Block) -> Block
-    requires { ⌜ Sound b ⌝ }
-    requires { ⌜ b .anchors < 8 ⌝ }
-    requires { ⌜ Filled (a .list) ⌝ }
-    ensures { λ k. ⌜ (blockOf k ≡ Read.withAnchor (anchorOf a) (blockOf b)) × Sound k ⌝ }
-{
-    let mut k = b;
-    let n = k.anchors;
-    k.anchor[n] = a;
-    k.anchors = n + 1;
-    k
-}
-
-fn with_span(s: Span, b: Block) -> Block
-    requires { ⌜ Sound b ⌝ }
-    requires { ⌜ b .spans < 16 ⌝ }
-    requires { ⌜ Filled (s .list) ⌝ }
-    ensures { λ k. ⌜ (blockOf k ≡ Read.withSpan (spanOf s) (blockOf b)) × Sound k ⌝ }
-{
-    let mut k = b;
-    let n = k.spans;
-    k.span[n] = s;
-    k.spans = n + 1;
-    k
-}
-
 // The block with the field of tag t, body b and n pairs more.
 fn with_body(t: u64, b: &[u8], n: usize, k: Block) -> Block
-    requires { ⌜ n ≤ 4 ⌝ }
+    requires { ⌜ n ≤ maxPairs ⌝ }
     requires { ⌜ Sound k ⌝ }
     requires { ⌜ Read.hasRoom t (countsOf k) ≡ true ⌝ }
     ensures { λ r. ⌜ (blockOf r ≡ Read.withBody t (now (b .entry)) n (blockOf k)) × Sound r ⌝ }
 {
+    let mut r = k;
     if t == format::WORD {
-        let w = bodies::word_from(b);
-        return with_word(w, k);
+        let i = r.words;
+        r.word[i] = bodies::word_from(b);
+        r.words = i + 1;
+        return r;
     }
     if t == format::TEMPO {
-        let w = bodies::tempo_from(b, n);
-        return with_tempo(w, k);
+        let i = r.tempos;
+        r.tempo[i] = bodies::tempo_from(b, n);
+        r.tempos = i + 1;
+        return r;
     }
     if t == format::ANCHOR {
-        let w = bodies::anchor_from(b, n);
-        return with_anchor(w, k);
+        let i = r.anchors;
+        r.anchor[i] = bodies::anchor_from(b, n);
+        r.anchors = i + 1;
+        return r;
     }
     if t == format::SPAN {
-        let w = bodies::span_from(b, n);
-        return with_span(w, k);
+        let i = r.spans;
+        r.span[i] = bodies::span_from(b, n);
+        r.spans = i + 1;
+        return r;
     }
-    let mut r = k;
     r.cap = numbers::u32_at(b, 0);
     r
 }
@@ -169,11 +125,23 @@ fn end_verdict(last: u64, words: usize) -> Verdict
     Verdict::OutOfOrder
 }
 
+// A refusal holds no block: the empty one.
+fn refused(v: Verdict) -> Answer
+    ensures { λ r. ⌜ (r .verdict ≡ v) × (blockOf (r .block) ≡ Read.empty) × Sound (r .block) ⌝ }
+{
+    let block = empty();
+    Answer {
+        verdict: v,
+        block: block,
+    }
+}
+
 // Reads the block file s.
 pub fn read(s: &[u8]) -> Answer
     ensures { λ r. ⌜ readOf r ≡ Read.read (now (s .entry)) ⌝ }
     ensures { λ r. ⌜ Sound (r .block) ⌝ }
     ensures { λ r. ⌜ (Read.accepted (r .verdict) ≡ true → Ranged (blockOf (r .block))) ⌝ }
+    ensures { λ r. ⌜ (Read.accepted (r .verdict) ≡ false → blockOf (r .block) ≡ Read.empty) ⌝ }
 {
     let mut block = empty();
     let mut last = 0;
@@ -188,10 +156,7 @@ pub fn read(s: &[u8]) -> Answer
         };
         let v = fields::field_verdict(r, last, so);
         if numbers::accepted(v) {} else {
-            return Answer {
-                verdict: v,
-                block: block,
-            };
+            return refused(v);
         }
         block = with_field(r, block);
         last = numbers::byte_at(r, 0);
@@ -199,8 +164,11 @@ pub fn read(s: &[u8]) -> Answer
     }
     let words = block.words;
     let v = end_verdict(last, words);
-    Answer {
-        verdict: v,
-        block: block,
+    if numbers::accepted(v) {
+        return Answer {
+            verdict: v,
+            block: block,
+        };
     }
+    refused(v)
 }

@@ -1,10 +1,8 @@
 use borrow.Author.Needs.{needs}
-use Rattle.format.specs.Read.{wordFrom}
 use Rattle.bodies.proofs.word_from.Statement.{statement}
 use Rattle.bodies.proofs.word_from.Tie as tie
 
 pub word-from-spec : {M : Type 1} → statement M
-unfolding wordFrom
 word-from-spec =
     tie.close
     (tie.spec
@@ -13,4 +11,6 @@ word-from-spec =
     (λ c κs. search needs)
     (λ c κs. search needs)
     (λ c κs. search needs)
-    (λ c. rw (c .before .before .before .before .u32-at .ensures .0, c .before .before .before .u32-at2 .ensures .0, c .before .before .u32-at3 .ensures .0, c .before .u32-at4 .ensures .0, c .u32-at5 .ensures .0)))
+    (λ c.
+    let b = c .before .before in
+    rw (b .before .before .u32-at .ensures .0, b .before .u32-at2 .ensures .0, b .u32-at3 .ensures .0, c .before .u32-at4 .ensures .0, c .u32-at5 .ensures .0)))

@@ -1,11 +1,11 @@
-use mathlib.Core.Path.{_∙_, ap}
+use mathlib.Core.Path.{sym, _∙_, ap}
 use lib.IntN.{pos, _+ℤ_}
 use mir.Syntax.{w64}
 use mir.Val.{toZ, ofZ}
 use Rattle.ints.specs.Bound.{sfits, pos-b}
 use Rattle.ints.specs.Held.{Held, cell, called, cast, read, fits+, fits*, plus, by}
 use Rattle.block.specs.Plan.{move}
-use Rattle.block.specs.Gap.{line}
+use Rattle.block.specs.Laws.{line-is}
 use Rattle.block.specs.Fits.{move-b}
 use Rattle.format.specs.Structs.{wordOf}
 use Rattle.gap.proofs.line.Statement.{statement}
@@ -23,7 +23,6 @@ module _ (c : tie.After-move-of) where
   moved = called w64 (c .move-of .ensures ∙ ap (move (wordOf (a .args .w))) (cell w64 (a .pre .1 .2) tt .is)) (move-b (a .pre .0) (a .pre .1 .2)) tt
 
 pub line-spec : {M : Type 1} → statement M
-unfolding line
 line-spec =
     tie.close
     (tie.spec
@@ -34,4 +33,5 @@ line-spec =
     (λ c κs. (c .before .pre .0, read (cell w64 (c .before .pre .1 .2) tt)))
     (λ c. fits* (raised (a c)) (moved c) tt)
     (λ c. fits+ (by (cell w64 (a c .pre .1 .0) tt) (cell w64 (a c .pre .1 .2) tt) tt) (by (raised (a c)) (moved c) tt) tt)
-    (λ c. plus (by (cell w64 (a c .pre .1 .0) tt) (cell w64 (a c .pre .1 .2) tt) tt) (by (raised (a c)) (moved c) tt) tt .is))
+    (λ c.
+    plus (by (cell w64 (a c .pre .1 .0) tt) (cell w64 (a c .pre .1 .2) tt) tt) (by (raised (a c)) (moved c) tt) tt .is ∙ sym (line-is _ _ _ _)))

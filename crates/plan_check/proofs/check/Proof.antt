@@ -1,6 +1,6 @@
-use Rattle.folds.specs.Kit.{_≡_, sym, _∙_, arith, needs}
+use Rattle.folds.specs.Kit.{sym, _∙_, arith, needs}
 use mir.Facts.{toZ-ofZ}
-use Rattle.plan_check.specs.Laws.{number-small, block-refused, plan-refused, gap-given}
+use Rattle.plan_check.specs.Laws.{passed, number-small, block-refused, plan-refused, gap-given}
 use Rattle.plan_check.proofs.check.Statement.{statement}
 use Rattle.plan_check.proofs.check.Tie as tie
 
@@ -18,11 +18,14 @@ check-spec =
     (λ c κs. c .before .before .before .read .ensures .1 .0)
     (λ c.
     let r = c .before .before .before .before .before .read in
-    plan-refused _ _ _ (r .ensures .0) _ _ _ (sym (c .before .before .before .accepted .ensures) ∙ c .before .before .if1 .taken) (c .before .refusal .ensures) (c .if2 .left))
+    let t = sym (c .before .before .before .accepted .ensures) ∙ c .before .before .if1 .taken in
+    plan-refused _ _ _ (r .ensures .0) _ _ _ t (c .before .refusal .ensures) (c .if2 .left))
     (λ c κs.
     let r = c .before .before .before .before .before .read in
-    (r .ensures .1 .0, (r .ensures .1 .1 (sym (c .before .before .before .accepted .ensures) ∙ c .before .before .if1 .taken), sym (c .before .refusal .ensures) ∙ c .if2 .taken)))
+    let t = sym (c .before .before .before .accepted .ensures) ∙ c .before .before .if1 .taken in
+    (r .ensures .1 .0, (r .ensures .1 .1 .0 t, passed _ _ _ (sym (c .before .refusal .ensures) ∙ c .if2 .taken))))
     (λ c.
     let r = c .before .before .before .before .before .before .read in
     let t = sym (c .before .before .before .before .accepted .ensures) ∙ c .before .before .before .if1 .taken in
-    gap-given _ _ _ (r .ensures .0) _ _ _ t (r .ensures .1 .1 t) (sym (c .before .before .refusal .ensures) ∙ c .before .if2 .taken) (toZ-ofZ (record { sfits = c .gap-of .ok }) ∙ c .gap-of .ensures)))
+    gap-given _ _ _ (r .ensures .0) _ _ _ t (r .ensures .1 .1 .0 t) (sym (c .before .before .refusal .ensures) ∙ c .before .if2 .taken)
+    (toZ-ofZ (record { sfits = c .gap-of .ok }) ∙ c .gap-of .ensures)))

@@ -1,23 +1,27 @@
-use Rattle.folds.specs.Kit.{_≡_, sym, ap, _∙_, true, _-_, _≤_, all, arith, needs}
+use Rattle.folds.specs.Kit.{_≡_, sym, ap, _∙_, true, _-_, _≤_, all, needs}
 use Rattle.folds.specs.Fold.{all-none, all-turn, all-stop, all-end}
 use lib.IntN.{pos, negℤ}
 use mir.Syntax.{w64}
 use mir.Facts.{toZ-ofZ}
 use Rattle.ints.specs.Held.{literal, fits-}
 use Rattle.block.specs.Gap.{price}
-use Rattle.plan_check.specs.Check.{within, pricesIn}
+use Rattle.plan_check.specs.Check.{between, pricesIn}
 use Rattle.plan_check.proofs.prices_in.Statement.{statement}
 use Rattle.plan_check.proofs.prices_in.Tie as tie
 
 abbrev Inv-loop : tie.InvT-loop
-Inv-loop prices n k₀ k = (k ≤ n) × (true ≡ all k (λ k. within (negℤ (pos 4294967296)) (pos 4294967296) (price prices k)))
+Inv-loop prices n k₀ k = (k ≤ n) × (true ≡ all k (λ k. between (negℤ (pos 4294967296)) (pos 4294967296) (price prices k)))
 
 abbrev μ-loop : tie.MeasureT-loop
 μ-loop prices n k₀ k = n - k
 
 -- the test of price k
-tested : (c : tie.After-within Inv-loop μ-loop) → c .within .result ≡ within (negℤ (pos 4294967296)) (pos 4294967296) (price (c .before .before .before .before .args .prices .now) (c .before .before .before .loop .k))
-tested c = c .within .ensures ∙ ap (within (negℤ (pos 4294967296)) (pos 4294967296)) (toZ-ofZ (record { sfits = c .before .p .given }))
+module _ (c : tie.After-between Inv-loop μ-loop) where
+  abbrev t : tie.At-loop Inv-loop μ-loop
+  t = c .before .before .before
+
+  tested : c .between .result ≡ between (negℤ (pos 4294967296)) (pos 4294967296) (price (t .before .args .prices .now) (t .loop .k))
+  tested = c .between .ensures ∙ ap (between (negℤ (pos 4294967296)) (pos 4294967296)) (toZ-ofZ (record { sfits = c .before .p .given }))
 
 pub prices-in-spec : {M : Type 1} → statement M
 unfolding pricesIn
