@@ -1,0 +1,7 @@
+pub mod Factor
+pub mod Room
+pub mod Held
+pub mod Laws
+pub mod Lists
+pub mod Sound
+pub mod Known

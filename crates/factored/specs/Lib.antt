@@ -1,0 +1,3 @@
+pub mod Factored
+pub mod Room
+pub mod Laws

@@ -1,0 +1,12 @@
+use Rattle.folds.specs.Kit.{kit}
+use Rattle.factoring.specs.Kept.{withSingular}
+use Rattle.factoring.proofs.Factoring.with_singular.Statement.{statement}
+use Rattle.factoring.proofs.Factoring.with_singular.Tie as tie
+
+pub with-singular-spec : {M : Type 1} → statement M
+unfolding withSingular
+with-singular-spec =
+    tie.close
+    (tie.spec
+    (λ c κs. search kit)  -- to-vec-requires
+    (λ c. rw (← c .to-vec .ensures)))  -- returns

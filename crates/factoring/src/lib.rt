@@ -1,0 +1,224 @@
+// qp.rs, `Factoring`, by value: the factor of Q's block on the free variables, kept from one iteration to the next.
+// Q is n by n; only its first `originals` variables are listed, in rising order.
+ghost use mathlib.Core.Path.{_≡_};
+ghost use Prim.Native.Nat.{_≤_, _*_};
+ghost use lib.ListN.{length};
+ghost use Rattle.folds.specs.Fold.{out};
+ghost use Rattle.sizes.specs.Sizes as Sizes;
+ghost use Rattle.vector.specs.Vector.{Below};
+ghost use Rattle.factor.specs.Factor.{Rising};
+ghost use Rattle.factor.specs.Room.{Block, Room};
+ghost use Rattle.factoring.specs.Kept as Kept;
+
+// The entries of a factor of all originals.
+pub const ENTRIES: usize = sizes::ORIGINALS * sizes::ORIGINALS;
+
+// A list of variables: the first `count` of the array.
+pub struct Listed {
+    pub list: [usize; sizes::ORIGINALS],
+    pub count: usize,
+}
+
+pub struct Factoring {
+    // Whether there is a factor, its variables, and the factor of their block.
+    pub factored: bool,
+    pub held: Listed,
+    pub factor: [f64; ENTRIES],
+    // Whether a block was singular, or nearly so, and the variables of the last.
+    pub failed: bool,
+    pub singular: Listed,
+}
+
+fn to_vec(indices: &[usize]) -> Listed
+    requires { ⌜ length (now indices) ≤ Sizes.originals ⌝ }
+    ensures { λ r. ⌜ r ≡ Kept.toVec (now (indices .entry)) ⌝ }
+{
+    let mut list = [0; sizes::ORIGINALS];
+    for i in 0..indices.len() {
+        list[i] = indices[i];
+    }
+    Listed {
+        list: list,
+        count: indices.len(),
+    }
+}
+
+// s.iter().all(|i| indices.binary_search(i).is_ok())
+fn contains_all(indices: &[usize], s: &[usize]) -> bool
+    requires { ⌜ Below (length (now indices)) (now indices) Sizes.originals × Below (length (now s)) (now s) Sizes.originals ⌝ }
+    ensures { λ r. ⌜ r ≡ Kept.containsAll (now (indices .entry)) (now (s .entry)) ⌝ }
+{
+    let listed = factor::marks(indices);
+    for t in 0..s.len() {
+        let i = s[t];
+        if !listed[i] {
+            return false;
+        }
+    }
+    true
+}
+
+// Whether the block on `indices` contains the last singular one.
+fn contains_singular(failed: bool, singular: Listed, originals: usize, indices: &[usize]) -> bool
+    requires { ⌜ (originals ≤ Sizes.originals) × Rising originals (now indices) × Kept.Fitting originals singular ⌝ }
+    ensures { λ r. ⌜ r ≡ Kept.containsSingular (now (indices .entry)) failed singular ⌝ }
+{
+    if failed {
+        let list = singular.list;
+        let k = singular.count;
+        return contains_all(indices, &list[..k]);
+    }
+    false
+}
+
+// Cholesky::new(a).filter(positive_definite), in place.
+pub fn definite(a: &mut [f64], k: usize) -> bool
+    requires { ⌜ k * k ≤ length (now a) ⌝ }
+    ensures { λ r. ⌜ out r (now (a .exit)) ≡ Kept.definite k (now (a .entry)) ⌝ }
+{
+    if triangular::cholesky(a, k) {
+        return triangular::positive_definite(&a[..], k);
+    }
+    false
+}
+
+// The factor of q's block on `indices` over the start of l; the block's rows go to room.
+pub fn fresh(q: &[f64], n: usize, indices: &[usize], l: &mut [f64], room: &mut [f64]) -> bool
+    requires { ⌜ (n * n ≤ length (now q))
+        × Below (length (now indices)) (now indices) n
+        × (length (now indices) * length (now indices) ≤ length (now l))
+        × (length (now indices) * n ≤ length (now room)) ⌝ }
+    ensures { λ r. ⌜ out r (now (l .exit)) ≡ Kept.fresh (now (q .entry)) n (now (indices .entry)) (now (l .entry)) ⌝ }
+{
+    let k = indices.len();
+    let rows = k * n;
+    matrix::select_rows(q, n, n, indices, k, room);
+    matrix::select_columns(&room[..rows], k, n, indices, k, l);
+    definite(l, k)
+}
+
+// Whether there is a last factor l, of the block on `held`, that could be updated.
+fn last_updated(
+    factored: bool,
+    held: Listed,
+    q: &[f64],
+    n: usize,
+    originals: usize,
+    indices: &[usize],
+    l: &mut [f64],
+    room: &mut [f64],
+) -> bool
+    requires { ⌜ Block n originals (now q)
+        × Room originals (now l) (now room)
+        × Kept.Fitting originals held
+        × Rising originals (now indices) ⌝ }
+    ensures { λ r. ⌜ out r (now (l .exit))
+        ≡ Kept.lastUpdated (now (q .entry)) n (now (indices .entry)) factored held (now (l .entry)) ⌝ }
+{
+    if factored {
+        let list = held.list;
+        let k = held.count;
+        return factor::updated(q, n, originals, &list[..k], indices, l, room);
+    }
+    false
+}
+
+impl Factoring {
+    pub fn new() -> Self
+        ensures { λ r. ⌜ r ≡ Kept.new ⌝ }
+    {
+        let none = Listed {
+            list: [0; sizes::ORIGINALS],
+            count: 0,
+        };
+        Factoring {
+            factored: false,
+            held: none,
+            factor: [0.0; ENTRIES],
+            failed: false,
+            singular: none,
+        }
+    }
+
+    // Drops the factor.
+    pub fn reset(self) -> Self
+        ensures { λ r. ⌜ r ≡ Kept.reset self ⌝ }
+    {
+        let mut f = self;
+        f.factored = false;
+        f
+    }
+
+    fn with_factor(self, indices: &[usize], l: [f64; ENTRIES]) -> Self
+        requires { ⌜ length (now indices) ≤ Sizes.originals ⌝ }
+        ensures { λ r. ⌜ r ≡ Kept.withFactor (now (indices .entry)) l self ⌝ }
+    {
+        let mut f = self;
+        f.factored = true;
+        f.held = to_vec(indices);
+        f.factor = l;
+        f
+    }
+
+    fn with_singular(self, indices: &[usize]) -> Self
+        requires { ⌜ length (now indices) ≤ Sizes.originals ⌝ }
+        ensures { λ r. ⌜ r ≡ Kept.withSingular (now (indices .entry)) self ⌝ }
+    {
+        let mut f = self;
+        f.factored = false;
+        f.failed = true;
+        f.singular = to_vec(indices);
+        f
+    }
+
+    // The factor of the block computed afresh, unless the block contains the last singular one.
+    fn afresh(
+        self,
+        q: &[f64],
+        n: usize,
+        originals: usize,
+        indices: &[usize],
+        room: &mut [f64],
+    ) -> Self
+        requires { ⌜ Block n originals (now q)
+            × Rising originals (now indices)
+            × Kept.Good originals self
+            × (originals * n ≤ length (now room)) ⌝ }
+        ensures { λ r. ⌜ r ≡ Kept.afresh (now (q .entry)) n (now (indices .entry)) self ⌝ }
+    {
+        let singular = self.singular;
+        if contains_singular(self.failed, singular, originals, indices) {
+            return self.reset();
+        }
+        let mut l = [0.0; ENTRIES];
+        if fresh(q, n, indices, &mut l, room) {
+            return self.with_factor(indices, l);
+        }
+        self.with_singular(indices)
+    }
+
+    // The factor of q's block on `indices`: updated from the last one where that can be done, and otherwise computed afresh.
+    // `factored` says afterwards whether there is one.
+    pub fn update(
+        self,
+        q: &[f64],
+        n: usize,
+        originals: usize,
+        indices: &[usize],
+        room: &mut [f64],
+    ) -> Self
+        requires { ⌜ Block n originals (now q)
+            × Rising originals (now indices)
+            × Kept.Good originals self
+            × (originals * n ≤ length (now room)) ⌝ }
+        ensures { λ r. ⌜ r ≡ Kept.update (now (q .entry)) n (now (indices .entry)) self ⌝ }
+        ensures { λ r. ⌜ Kept.Good originals r ⌝ }
+    {
+        let mut l = self.factor;
+        let held = self.held;
+        if last_updated(self.factored, held, q, n, originals, indices, &mut l, room) {
+            return self.with_factor(indices, l);
+        }
+        self.afresh(q, n, originals, indices, room)
+    }
+}
