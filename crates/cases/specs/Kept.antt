@@ -10,7 +10,8 @@ use Rattle.folds.specs.Fold.{all, all-at, both, both-true}
 use Rattle.ints.specs.Diff.{diff, split, leZ-true}
 use Rattle.block.specs.Block.{Block, anchor, span}
 use Rattle.block.specs.Plan.{sumOf, moves}
-use Rattle.block.specs.Keeps.{Keeps, windowKept, windowsKept}
+use Rattle.block.specs.Keeps.{Keeps, windowsKept}
+use Rattle.block.specs.Laws.{windowKept-is, windowsKept-is}
 
 unfoldable pub fromTo : ℤ → ℤ → ℤ → Bool
 fromTo lower upper z = both (leZ lower z) (leZ z upper)
@@ -30,14 +31,18 @@ unfolding fromTo
 from-to l u z e = let p = both-true _ _ e in (leZ-true l z (p .0), leZ-true z u (p .1))
 
 pub keeps-true : (b : Block) (x : List ℤ) → keeps b x ≡ true → Keeps b x
-unfolding keeps windowsKept windowKept
+unfolding keeps
 keeps-true b x e =
     let p = both-true _ _ e in
     let q = both-true _ _ (p .1) in
     let r = both-true _ _ (q .1) in
     record {
-      windows = λ i l. let w = both-true _ _ (all-at _ i _ (p .0) l) in (leZ-true _ _ (w .0), leZ-true _ _ (w .1));
-      anchors = λ k l. let w = from-to (anchor b k .value) (anchor b k .value) (sumOf (anchor b k .list) x) (all-at _ k _ (q .0) l) in ≤-antisym _ _ (w .0) (w .1);
+      windows = λ i l.
+          let w = both-true _ _ (rw windowKept-is at (all-at _ i _ (rw windowsKept-is at (p .0)) l)) in
+          (leZ-true _ _ (w .0), leZ-true _ _ (w .1));
+      anchors = λ k l.
+          let w = from-to (anchor b k .value) (anchor b k .value) (sumOf (anchor b k .list) x) (all-at _ k _ (q .0) l) in
+          ≤-antisym _ _ (w .0) (w .1);
       spans = λ k l. from-to (span b k .lower) (span b k .upper) (sumOf (span b k .list) x) (all-at _ k _ (r .0) l);
       cap = leZ-true _ _ (r .1);
     }

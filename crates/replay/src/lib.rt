@@ -2,7 +2,8 @@
 // every byte is 0.
 use libc::STDIN_FILENO;
 use libc::STDOUT_FILENO;
-ghost use Prim.Native.Nat.{_≤_, _<_};
+ghost use mathlib.Core.Path.{_≡_};
+ghost use Prim.Native.Nat.{_*_, _≤_, _<_};
 ghost use lib.ListN.{length};
 
 fn wide(b: u8) -> usize
@@ -34,7 +35,7 @@ pub fn past(s: &[u8], at: usize, w: usize) -> usize
 }
 
 // Numbers of 16, 32 and 64 bits, low byte first.
-pub fn number(s: &[u8], at: usize) -> usize
+pub fn number16(s: &[u8], at: usize) -> usize
     ensures { λ r. ⌜ r < 65536 ⌝ }
 {
     byte(s, at) + byte(s, past(s, at, 1)) * 256
@@ -43,7 +44,7 @@ pub fn number(s: &[u8], at: usize) -> usize
 pub fn number32(s: &[u8], at: usize) -> usize
     ensures { λ r. ⌜ r < 4294967296 ⌝ }
 {
-    number(s, at) + number(s, past(s, at, 2)) * 65536
+    number16(s, at) + number16(s, past(s, at, 2)) * 65536
 }
 
 pub fn number64(s: &[u8], at: usize) -> u64 {
@@ -76,7 +77,7 @@ fn coded(s: &[u8], at: usize, t: usize) -> f64 {
         return whole(t) - 125.0;
     }
     if t == 251 {
-        return fraction(number(s, past(s, at, 1)));
+        return fraction(number16(s, past(s, at, 1)));
     }
     if t == 253 {
         return -0.0;
@@ -157,7 +158,7 @@ pub struct Floats {
 pub fn slice(s: &[u8], at: usize, y: &mut [f64]) -> Floats
     ensures { λ r. ⌜ r .count ≤ length (now (y .entry)) ⌝ }
 {
-    let n = least(number(s, at), y.len());
+    let n = least(number16(s, at), y.len());
     let mut c = start(past(s, at, 2));
     for i in 0..n {
         c = next(s, c);
@@ -198,6 +199,76 @@ pub fn differing(a: &[f64], b: &[f64]) -> usize {
     d
 }
 
+// The entries of an n by m matrix.
+pub fn area(n: usize, m: usize) -> usize
+    requires { ⌜ (n ≤ 48) × (m ≤ 48) ⌝ }
+    ensures { λ r. ⌜ r ≡ n * m ⌝ }
+{
+    n * m
+}
+
+// How many floats of c are not those of column j of l, which is n by n, from the diagonal down.
+fn column_differing(l: &[f64], n: usize, j: usize, c: &[f64]) -> usize
+    requires { ⌜ (n ≤ 48) × (n * n ≤ length (now l)) × (j < n) ⌝ }
+{
+    let b = j * n + j;
+    let e = j * n + n;
+    differing(&l[b..e], c)
+}
+
+// How many floats of c are not those of the lower triangle of l, which is n by n, column after column.
+pub fn lower_differing(l: &[f64], n: usize, c: &[f64]) -> usize {
+    if n > 48 {
+        return 1;
+    }
+    if area(n, n) > l.len() {
+        return 1;
+    }
+    let mut differ = 0;
+    let mut at = 0;
+    for j in 0..n {
+        if n - j > c.len() - at {
+            return 1;
+        }
+        let e = at + (n - j);
+        differ = std::num::wrapping_add_usize(differ, column_differing(l, n, j, &c[at..e]));
+        at = e;
+    }
+    if at < c.len() {
+        return 1;
+    }
+    differ
+}
+
+pub fn one_if(differs: bool) -> usize {
+    if differs {
+        return 1;
+    }
+    0
+}
+
+// How many floats are not those of the answer, with which the record ends.
+pub fn compare_answer(s: &[u8], at: usize, x: &[f64], multipliers: &[f64]) -> usize {
+    let mut a = [0.0; 255];
+    let mut b = [0.0; 255];
+    let first = slice(s, at, &mut a);
+    let second = slice(s, first.at, &mut b);
+    let i = first.count;
+    let j = second.count;
+    let differ = std::num::wrapping_add_usize(
+        differing(x, &a[..i]),
+        differing(multipliers, &b[..j]),
+    );
+    std::num::wrapping_add_usize(differ, one_if(second.at < s.len()))
+}
+
+// More at a place of a tally.
+pub fn add(tally: &mut [u64], at: usize, n: u64) {
+    if at < tally.len() {
+        tally[at] = std::num::wrapping_add_u64(tally[at], n);
+    }
+}
+
 // More than any length.
 const END: usize = 0xffff_ffff_ffff_ffff;
 
@@ -207,7 +278,7 @@ pub fn record(body: &mut [u8]) -> usize {
     if io::read_full(STDIN_FILENO, &mut head) < 2 {
         return END;
     }
-    let n = number(&head, 0);
+    let n = number16(&head, 0);
     if n > body.len() {
         return END;
     }

@@ -13,20 +13,6 @@ struct Case {
     answered: bool,
 }
 
-fn area(n: usize, m: usize) -> usize
-    requires { ⌜ (n ≤ 48) × (m ≤ 48) ⌝ }
-    ensures { λ r. ⌜ r ≡ n * m ⌝ }
-{
-    n * m
-}
-
-fn one_if(differs: bool) -> usize {
-    if differs {
-        return 1;
-    }
-    0
-}
-
 fn compare_number(y: f64, c: &[f64]) -> usize {
     if c.len() != 1 {
         return 1;
@@ -71,68 +57,34 @@ fn compare_size(kind: usize, n: usize, a: &[f64], c: &[f64]) -> usize {
     compare_number(size(kind, n, a), c)
 }
 
-// How many floats of c are not those of column j of l from the diagonal down.
-fn column_differing(l: &[f64], n: usize, j: usize, c: &[f64]) -> usize
-    requires { ⌜ (n * n ≤ length (now l)) × (j < n) ⌝ }
-{
-    let column = matrix::column(l, n, n, j);
-    if j > column.len() {
-        return 1;
-    }
-    replay::differing(&column[j..], c)
-}
-
-// How many floats of c are not those of the lower triangle of l, column after column.
-fn lower_differing(l: &[f64], n: usize, c: &[f64]) -> usize
-    requires { ⌜ n ≤ 48 ⌝ }
-{
-    if area(n, n) > l.len() {
-        return 1;
-    }
-    let mut differ = 0;
-    let mut at = 0;
-    for j in 0..n {
-        if n - j > c.len() - at {
-            return 1;
-        }
-        let e = at + (n - j);
-        differ = std::num::wrapping_add_usize(differ, column_differing(l, n, j, &c[at..e]));
-        at = e;
-    }
-    if at < c.len() {
-        return 1;
-    }
-    differ
-}
-
 fn compare_cholesky(n: usize, answered: bool, a: &mut [f64], c: &[f64]) -> usize
     requires { ⌜ n ≤ 48 ⌝ }
 {
-    if area(n, n) != a.len() {
+    if replay::area(n, n) != a.len() {
         return 1;
     }
     if triangular::cholesky(a, n) {
         if answered {
-            return lower_differing(&a[..], n, c);
+            return replay::lower_differing(&a[..], n, c);
         }
         return 1;
     }
-    one_if(answered)
+    replay::one_if(answered)
 }
 
 fn compare_positive_definite(n: usize, answered: bool, a: &[f64], c: &[f64]) -> usize
     requires { ⌜ n ≤ 48 ⌝ }
 {
-    if area(n, n) != a.len() {
+    if replay::area(n, n) != a.len() {
         return 1;
     }
     if c.len() != 0 {
         return 1;
     }
     if triangular::positive_definite(a, n) {
-        return one_if(!answered);
+        return replay::one_if(!answered);
     }
-    one_if(answered)
+    replay::one_if(answered)
 }
 
 // The transposed system for the k columns of b, one after the other.
@@ -168,10 +120,10 @@ fn compare_solve(x: Case, a: &[f64], b: &mut [f64], c: &[f64]) -> usize
 {
     let n = x.n;
     let k = x.m;
-    if area(n, n) != a.len() {
+    if replay::area(n, n) != a.len() {
         return 1;
     }
-    if area(n, k) != b.len() {
+    if replay::area(n, k) != b.len() {
         return 1;
     }
     if solve(x.kind, a, n, b, k) {
@@ -180,7 +132,7 @@ fn compare_solve(x: Case, a: &[f64], b: &mut [f64], c: &[f64]) -> usize
         }
         return 1;
     }
-    one_if(x.answered)
+    replay::one_if(x.answered)
 }
 
 // The array that begins with a.
@@ -200,11 +152,13 @@ fn compare_remove(n: usize, p: usize, a: &[f64], c: &[f64]) -> usize {
     if p >= n {
         return 1;
     }
-    if area(n, n) != a.len() {
+    if replay::area(n, n) != a.len() {
         return 1;
     }
-    let l = update::remove_column(array(a), n, p);
-    lower_differing(&l, n - 1, c)
+    let mut l = array(a);
+    let mut room = [0.0; 1024];
+    update::remove_column(&mut l, n, p, &mut room);
+    replay::lower_differing(&l, n - 1, c)
 }
 
 fn compare_insert(n: usize, p: usize, a: &[f64], b: &[f64], c: &[f64]) -> usize {
@@ -214,14 +168,16 @@ fn compare_insert(n: usize, p: usize, a: &[f64], b: &[f64], c: &[f64]) -> usize 
     if p > n {
         return 1;
     }
-    if area(n, n) != a.len() {
+    if replay::area(n, n) != a.len() {
         return 1;
     }
     if b.len() != n + 1 {
         return 1;
     }
-    let l = update::insert_column(array(a), n, p, b);
-    lower_differing(&l, n + 1, c)
+    let mut l = array(a);
+    let mut room = [0.0; 1024];
+    update::insert_column(&mut l, n, p, b, &mut room);
+    replay::lower_differing(&l, n + 1, c)
 }
 
 fn compare_both(a: &[f64], b: &[f64], c: &[f64], d: &[f64]) -> usize {
@@ -237,10 +193,10 @@ fn compare_qr(x: Case, a: &mut [f64], b: &mut [f64], c: &[f64], d: &[f64]) -> us
     if m > n {
         return 1;
     }
-    if area(n, m) != a.len() {
+    if replay::area(n, m) != a.len() {
         return 1;
     }
-    if area(n, k) != b.len() {
+    if replay::area(n, k) != b.len() {
         return 1;
     }
     let mut made = [false; 48];
@@ -261,7 +217,7 @@ fn compare_rotate(x: Case, a: &mut [f64], b: &mut [f64], c: &[f64], d: &[f64]) -
     if q >= n {
         return 1;
     }
-    if area(n, n) != a.len() {
+    if replay::area(n, n) != a.len() {
         return 1;
     }
     if a.len() != b.len() {
@@ -271,26 +227,51 @@ fn compare_rotate(x: Case, a: &mut [f64], b: &mut [f64], c: &[f64], d: &[f64]) -
     compare_both(&a[..], &b[..], c, d)
 }
 
-fn compare_eigen(n: usize, answered: bool, a: &[f64], c: &[f64], d: &[f64]) -> usize {
+fn compare_found(
+    n: usize,
+    answered: bool,
+    a: &mut [f64],
+    room: &mut [f64],
+    values: &mut [f64],
+    vectors: &mut [f64],
+    c: &[f64],
+    d: &[f64],
+) -> usize
+    requires { ⌜ (length (now a) ≡ n * n) × (length (now room) ≡ n * n) × (length (now values) ≡ n) × (length (now vectors) ≡ n * n) ⌝ }
+{
+    if eigen::symmetric_eigen(a, n, room, values, vectors) {
+        if answered {
+            return compare_both(&values[..], &vectors[..], c, d);
+        }
+        return 1;
+    }
+    replay::one_if(answered)
+}
+
+fn compare_eigen(n: usize, answered: bool, a: &mut [f64], c: &[f64], d: &[f64]) -> usize {
     if n > 32 {
         return 1;
     }
-    let count = area(n, n);
+    let count = replay::area(n, n);
     if count != a.len() {
         return 1;
     }
     if count > 1024 {
         return 1;
     }
+    let mut room = [0.0; 1024];
     let mut values = [0.0; 32];
     let mut vectors = [0.0; 1024];
-    if eigen::symmetric_eigen(a, n, &mut values, &mut vectors) {
-        if answered {
-            return compare_both(&values[..n], &vectors[..count], c, d);
-        }
-        return 1;
-    }
-    one_if(answered)
+    compare_found(
+        n,
+        answered,
+        a,
+        &mut room[..count],
+        &mut values[..n],
+        &mut vectors[..count],
+        c,
+        d,
+    )
 }
 
 // A kind that has one slice out, and that always.
@@ -343,7 +324,7 @@ fn compare_two(x: Case, a: &mut [f64], b: &mut [f64], c: &[f64], d: &[f64]) -> u
 {
     let kind = x.kind;
     if kind == 13 {
-        return compare_eigen(x.n, x.answered, &a[..], c, d);
+        return compare_eigen(x.n, x.answered, a, c, d);
     }
     if !x.answered {
         return 1;
@@ -413,7 +394,7 @@ fn run(s: &[u8]) -> Replayed {
     Replayed {
         kind: x.kind,
         outcome: outcome,
-        differ: std::num::wrapping_add_usize(differ, one_if(fourth.at < s.len())),
+        differ: std::num::wrapping_add_usize(differ, replay::one_if(fourth.at < s.len())),
     }
 }
 
@@ -428,36 +409,19 @@ const DIFFERENCES: usize = 3;
 
 const KINDS: usize = 4;
 
-fn add(tally: &mut [u64; 18], at: usize, n: u64) {
-    if at < 18 {
-        tally[at] = std::num::wrapping_add_u64(tally[at], n);
-    }
-}
-
-fn count(tally: &mut [u64; 18], r: Replayed) {
-    add(tally, RECORDS, 1);
-    add(tally, std::num::wrapping_add_usize(KINDS, r.kind), 1);
-    add(tally, DIFFERENCES, r.differ as u64);
+fn count(tally: &mut [u64], r: Replayed) {
+    replay::add(tally, RECORDS, 1);
+    replay::add(tally, std::num::wrapping_add_usize(KINDS, r.kind), 1);
+    replay::add(tally, DIFFERENCES, r.differ as u64);
     if r.outcome == 0 {
-        add(tally, ANSWERS, 1);
+        replay::add(tally, ANSWERS, 1);
         return;
     }
     if r.outcome == 1 {
-        add(tally, NOTHING, 1);
+        replay::add(tally, NOTHING, 1);
         return;
     }
-    add(tally, DIFFERENCES, 1);
-}
-
-// Counts the next record of the list, which is read into `body`; false at the end.
-fn step(body: &mut [u8], tally: &mut [u64; 18]) -> bool {
-    let n = replay::record(body);
-    if n > body.len() {
-        return false;
-    }
-    let r = run(&body[..n]);
-    count(tally, r);
-    true
+    replay::add(tally, DIFFERENCES, 1);
 }
 
 fn report(tally: [u64; 18]) {
@@ -488,9 +452,11 @@ fn main() {
     let mut tally = [0u64; 18];
     let mut body = [0u8; 16000];
     for _ in 0..1000000usize {
-        if step(&mut body, &mut tally) {} else {
+        let n = replay::record(&mut body);
+        if n > body.len() {
             break;
         }
+        count(&mut tally, run(&body[..n]));
     }
     report_kinds(tally);
     report(tally);

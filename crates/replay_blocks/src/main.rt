@@ -17,25 +17,28 @@ fn i64_at(s: &[u8], at: usize) -> i64 {
     !((18446744073709551615 - n) as i64)
 }
 
-// The times and prices from a place on, as many as a count byte can say.
-fn times_at(s: &[u8], at: usize) -> [i32; 255] {
-    let mut times = [0i32; 255];
-    let mut p = at;
-    for k in 0..255usize {
-        times[k] = i32_at(s, p);
-        p = replay::past(s, p, 4);
-    }
-    times
+// As many times and prices as a count byte can say.
+struct Plan {
+    times: [i32; 255],
+    prices: [i64; 255],
 }
 
-fn prices_at(s: &[u8], at: usize) -> [i64; 255] {
+// The times from one place on and the prices from another.
+fn plan_at(s: &[u8], at: usize, prices_at: usize) -> Plan {
+    let mut times = [0i32; 255];
     let mut prices = [0i64; 255];
     let mut p = at;
+    let mut q = prices_at;
     for k in 0..255usize {
-        prices[k] = i64_at(s, p);
-        p = replay::past(s, p, 8);
+        times[k] = i32_at(s, p);
+        prices[k] = i64_at(s, q);
+        p = replay::past(s, p, 4);
+        q = replay::past(s, q, 8);
     }
-    prices
+    Plan {
+        times: times,
+        prices: prices,
+    }
 }
 
 // What a check gave, and where the next begins.
@@ -76,11 +79,14 @@ fn same_check(block: &[u8], times: &[i32], prices: &[i64], s: &[u8], at: usize) 
 
 fn one_check(block: &[u8], s: &[u8], at: usize) -> Compared {
     let t = replay::byte(s, at);
-    let times = times_at(s, replay::past(s, at, 1));
-    let between = replay::past(s, replay::past(s, at, 1), 4 * t);
+    let first = replay::past(s, at, 1);
+    let between = replay::past(s, first, 4 * t);
     let p = replay::byte(s, between);
-    let prices = prices_at(s, replay::past(s, between, 1));
-    let end = replay::past(s, replay::past(s, between, 1), 8 * p);
+    let second = replay::past(s, between, 1);
+    let end = replay::past(s, second, 8 * p);
+    let plan = plan_at(s, first, second);
+    let times = plan.times;
+    let prices = plan.prices;
     same_check(block, &times[..t], &prices[..p], s, end)
 }
 
@@ -126,7 +132,7 @@ fn record_in(s: &[u8], block: &[u8], at: usize) -> Replayed {
 }
 
 fn record(s: &[u8]) -> Replayed {
-    let n = replay::number(s, 0);
+    let n = replay::number16(s, 0);
     if s.len() < 2 {
         return Replayed {
             outcome: 0,
@@ -163,25 +169,11 @@ fn with_record(t: Tally, r: Replayed) -> Tally {
     next
 }
 
-struct Next {
-    more: bool,
-    tally: Tally,
-}
-
-// The tally with the next record of the list, which is read into `body`.
-fn step(body: &mut [u8], t: Tally) -> Next {
-    let n = replay::record(body);
-    if n > body.len() {
-        return Next {
-            more: false,
-            tally: t,
-        };
-    }
-    let r = record(&body[..n]);
-    Next {
-        more: true,
-        tally: with_record(t, r),
-    }
+fn report(t: Tally) {
+    replay::line(b"blocks ", t.blocks);
+    replay::line(b"accepted ", t.accepted);
+    replay::line(b"checks ", t.checks);
+    replay::line(b"differences ", t.differ);
 }
 
 fn main() {
@@ -193,14 +185,11 @@ fn main() {
     };
     let mut body = [0u8; 16000];
     for _ in 0..1000000usize {
-        let next = step(&mut body, tally);
-        tally = next.tally;
-        if next.more {} else {
+        let n = replay::record(&mut body);
+        if n > body.len() {
             break;
         }
+        tally = with_record(tally, record(&body[..n]));
     }
-    replay::line(b"blocks ", tally.blocks);
-    replay::line(b"accepted ", tally.accepted);
-    replay::line(b"checks ", tally.checks);
-    replay::line(b"differences ", tally.differ);
+    report(tally);
 }

@@ -1,28 +1,5 @@
 // Runs `solve_kkt` on the cases of standard input again, in the format of docs/CASES.md, 'Engine calls', and compares its
 // number and every bit with the reference.
-ghost use Prim.Native.Nat.{_<_};
-
-fn one_if(differs: bool) -> usize {
-    if differs {
-        return 1;
-    }
-    0
-}
-
-// How many floats are not those of the answer, with which the record ends.
-fn compare_answer(s: &[u8], at: usize, x: &[f64], multipliers: &[f64]) -> usize {
-    let mut a = [0.0; 255];
-    let mut b = [0.0; 255];
-    let first = replay::slice(s, at, &mut a);
-    let second = replay::slice(s, first.at, &mut b);
-    let i = first.count;
-    let j = second.count;
-    let differ = std::num::wrapping_add_usize(
-        replay::differing(x, &a[..i]),
-        replay::differing(multipliers, &b[..j]),
-    );
-    std::num::wrapping_add_usize(differ, one_if(second.at < s.len()))
-}
 
 // What x and the multipliers hold before the call, and after a refusal.
 const BEFORE: f64 = 8191.0625;
@@ -40,7 +17,7 @@ fn written(x: &[f64]) -> usize {
 // How many floats a refusal has written; the record ends with the outcome.
 fn compare_refusal(s: &[u8], at: usize, x: &[f64], multipliers: &[f64]) -> usize {
     let differ = std::num::wrapping_add_usize(written(x), written(multipliers));
-    std::num::wrapping_add_usize(differ, one_if(at < s.len()))
+    std::num::wrapping_add_usize(differ, replay::one_if(at < s.len()))
 }
 
 // How many floats of a case come out otherwise; what follows the outcome in the record s begins at a place.
@@ -62,7 +39,7 @@ fn compare(
         return 1;
     }
     if outcome == 0 {
-        return compare_answer(s, at, &x[..], &multipliers[..]);
+        return replay::compare_answer(s, at, &x[..], &multipliers[..]);
     }
     compare_refusal(s, at, &x[..], &multipliers[..])
 }
@@ -107,7 +84,7 @@ fn run(s: &[u8]) -> Replayed {
     );
     Replayed {
         outcome: outcome,
-        differ: std::num::wrapping_add_usize(differ, one_if(replay::byte(s, 0) != 0)),
+        differ: std::num::wrapping_add_usize(differ, replay::one_if(replay::byte(s, 0) != 0)),
     }
 }
 
@@ -127,9 +104,7 @@ const SINGULAR: usize = 5;
 const NO_OPTIMUM: usize = 6;
 
 // An outcome that the call doesn't have is a difference.
-fn place(outcome: usize) -> usize
-    ensures { λ r. ⌜ r < 7 ⌝ }
-{
+fn place(outcome: usize) -> usize {
     match outcome {
         0 => SOLVED,
         9 => WRONG_SHAPE,
@@ -140,27 +115,10 @@ fn place(outcome: usize) -> usize
     }
 }
 
-fn add(tally: &mut [u64; 7], at: usize, n: u64)
-    requires { ⌜ at < 7 ⌝ }
-{
-    tally[at] = std::num::wrapping_add_u64(tally[at], n);
-}
-
-fn count(tally: &mut [u64; 7], r: Replayed) {
-    add(tally, RECORDS, 1);
-    add(tally, place(r.outcome), 1);
-    add(tally, DIFFERENCES, r.differ as u64);
-}
-
-// Counts the next record of the list, which is read into `body`; false at the end.
-fn step(body: &mut [u8], tally: &mut [u64; 7]) -> bool {
-    let n = replay::record(body);
-    if n > body.len() {
-        return false;
-    }
-    let r = run(&body[..n]);
-    count(tally, r);
-    true
+fn count(tally: &mut [u64], r: Replayed) {
+    replay::add(tally, RECORDS, 1);
+    replay::add(tally, place(r.outcome), 1);
+    replay::add(tally, DIFFERENCES, r.differ as u64);
 }
 
 fn report(tally: [u64; 7]) {
@@ -177,9 +135,11 @@ fn main() {
     let mut tally = [0u64; 7];
     let mut body = [0u8; 16000];
     for _ in 0..1000000usize {
-        if step(&mut body, &mut tally) {} else {
+        let n = replay::record(&mut body);
+        if n > body.len() {
             break;
         }
+        count(&mut tally, run(&body[..n]));
     }
     report(tally);
 }

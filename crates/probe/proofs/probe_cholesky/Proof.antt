@@ -13,8 +13,13 @@ probe-cholesky-spec =
     (λ c. rw (lt-leb _ _ (c .if1 .taken)))  -- returns
     (λ c. small-fits (c .if1 .left) (c .if1 .left))  -- mul-if2
     (λ c. rw (le-leb _ _ (c .before .if1 .left), lt-leb _ _ (c .if2 .taken)))  -- returns-2
-    (λ c κs. search needs)  -- cholesky-requires
-    (λ c. search needs)  -- same-length
-    (λ c. rw (le-leb _ _ (c .before .before .before .before .before .before .if1 .left), le-leb _ _ (c .before .before .before .before .before .if2 .left)) (rw (c .if3 .taken) at (c .before .before .before .cholesky .ensures)))  -- returns-3
-    (λ c. search needs)  -- same-length-2
-    (λ c. rw (le-leb _ _ (c .before .before .before .before .before .before .if1 .left), le-leb _ _ (c .before .before .before .before .before .if2 .left)) (rw (c .if3 .left) at (c .before .before .before .cholesky .ensures))))  -- returns-4
+    (λ c κs. search needs) (λ c. search needs)
+    (λ c. rw (
+      le-leb _ _ (c .before .before .before .before .before .before .if1 .left),
+      le-leb _ _ (c .before .before .before .before .before .if2 .left),
+    ) (rw (c .if3 .taken) at (c .before .before .before .cholesky .ensures)))  -- returns-3
+    (λ c. search needs)
+    (λ c. rw (
+      le-leb _ _ (c .before .before .before .before .before .before .if1 .left),
+      le-leb _ _ (c .before .before .before .before .before .if2 .left),
+    ) (rw (c .if3 .left) at (c .before .before .before .cholesky .ensures))))  -- returns-4

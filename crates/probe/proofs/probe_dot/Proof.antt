@@ -8,8 +8,7 @@ pub probe-dot-spec : {M : Type 1} → statement M
 unfolding dot pick
 probe-dot-spec =
     tie.close
-    (tie.spec
-    (λ c κs. search needs)  -- dot-requires
+    (tie.spec (λ c κs. search needs)
     (λ c. rw (le-leb _ _ (c .before .if1 .taken)) (c .dot .ensures))  -- returns
-    (λ c κs. search needs)  -- nan-requires
+    (λ c κs. search needs)
     (λ c. rw (lt-leb _ _ (c .before .if1 .left)) (c .nan .ensures)))  -- returns-2

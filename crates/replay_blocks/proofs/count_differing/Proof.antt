@@ -9,37 +9,14 @@ Inv-loop block s at n differ₀ p₀ counter₀ differ p counter = counter ≤ n
 abbrev μ-loop : tie.MeasureT-loop
 μ-loop block s at n differ₀ p₀ counter₀ differ p counter = n - counter
 
-loop-holds : tie.Need-loop-holds Inv-loop μ-loop
-loop-holds c = search needs
-
-one-check-requires : tie.Need-one-check-requires Inv-loop μ-loop
-one-check-requires c κs = search needs
-
-wrapping-add-u64-requires : tie.Need-wrapping-add-u64-requires Inv-loop μ-loop
-wrapping-add-u64-requires c κs = search needs
-
-add-counter : tie.Need-add-counter Inv-loop μ-loop
-add-counter c = search needs
-
-loop-less : tie.Need-loop-less Inv-loop μ-loop
-loop-less c = search needs
-
-loop-again : tie.Need-loop-again Inv-loop μ-loop
-loop-again c = search needs
-
-returns : tie.Need-returns Inv-loop μ-loop
-returns c = search needs
-
 pub count-differing-spec : {M : Type 1} → statement M
 count-differing-spec =
     tie.close
-    (tie.spec
-    Inv-loop
-    μ-loop
-    loop-holds
-    one-check-requires
-    wrapping-add-u64-requires
-    add-counter
-    loop-less
-    loop-again
-    returns)
+    (tie.spec Inv-loop μ-loop
+    (λ c. search needs)  -- loop-holds
+    (λ c κs. search needs)  -- one-check-requires
+    (λ c κs. search needs)  -- wrapping-add-u64-requires
+    (λ c. search needs)  -- add-counter
+    (λ c. search needs)  -- loop-less
+    (λ c. search needs)  -- loop-again
+    (λ c. search needs))  -- returns

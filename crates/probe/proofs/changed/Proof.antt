@@ -1,0 +1,53 @@
+use Rattle.folds.specs.Kit.{_≡_, _≤_, sym, arith, needs}
+use Rattle.folds.specs.Tab.{taken-over}
+use native.Mathlib.Nat.{le-refl}
+use lib.ListN.{take}
+use Rattle.factor.specs.Laws.{listed-few}
+use Rattle.probe.specs.Hooks.{allBut, but-rises}
+use Rattle.probe.proofs.changed.Statement.{statement}
+use Rattle.probe.proofs.changed.Tie as tie
+
+held-few : (c : tie.After-all-but) → c .all-but .result ≤ c .before .before .before .before .before .args .n
+held-few c = rw (c .all-but .ensures .0) (listed-few (c .before .before .before .before .before .args .n) (allBut (c .before .before .before .before .before .args .n) (c .before .before .before .before .before .args .joins)) (but-rises (c .before .before .before .before .before .args .n) (c .before .before .before .before .before .args .joins)))
+
+listed-few-2 : (c : tie.After-all-but2) → c .all-but2 .result ≤ c .before .before .before .before .before .before .before .before .args .n
+listed-few-2 c = rw (c .all-but2 .ensures .0) (listed-few (c .before .before .before .before .before .before .before .before .args .n) (allBut (c .before .before .before .before .before .before .before .before .args .n) (c .before .before .before .before .before .before .before .before .args .leaves)) (but-rises (c .before .before .before .before .before .before .before .before .args .n) (c .before .before .before .before .before .before .before .before .args .leaves)))
+
+-- the parts of the arrays that are lent are the lists
+lent-held : (c : tie.After-all-but) → take (c .all-but .result) (c .all-but .last .1 .1 .0) ≡ allBut (c .before .before .before .before .before .args .n) (c .before .before .before .before .before .args .joins)
+lent-held c = taken-over _ _ (sym (c .all-but .ensures .0)) (c .all-but .ensures .1)
+
+lent-listed : (c : tie.After-all-but2) → take (c .all-but2 .result) (c .all-but2 .last .1 .1 .0) ≡ allBut (c .before .before .before .before .before .before .before .before .args .n) (c .before .before .before .before .before .before .before .before .args .leaves)
+lent-listed c = taken-over _ _ (sym (c .all-but2 .ensures .0)) (c .all-but2 .ensures .1)
+
+slice-aggregate-updated : tie.Need-slice-aggregate-updated
+slice-aggregate-updated c = let r = c .before .before .before .before .before in rw (lent-held r) (r .all-but .ensures .0)
+
+slice-aggregate-updated-2 : tie.Need-slice-aggregate-updated-2
+slice-aggregate-updated-2 c = let r = c .before .before .before in rw (lent-listed r) (r .all-but2 .ensures .0)
+
+updated-requires : tie.Need-updated-requires
+updated-requires c κs =
+    let p = c .before .before .before .before .before .before .before .before .before .before .before .before .before .pre in (
+      record { few = p .0; within = le-refl _; q-holds = omega (arith, p .3) },
+      record { few = p .0; l-holds = omega (arith, p .4); room-holds = omega (arith, p .5) },
+      rw (lent-held (c .before .before .before .before .before .before .before .before)) (but-rises _ _),
+      rw (lent-listed (c .before .before .before .before .before)) (but-rises _ _),
+    )
+
+pub changed-spec : {M : Type 1} → statement M
+changed-spec =
+    tie.close
+    (tie.spec
+    (λ c. search needs)  -- slice-aggregate-all-but
+    (λ c κs. search needs)  -- all-but-requires
+    (λ c. search needs)  -- slice-aggregate-all-but-2
+    (λ c κs. search needs)  -- all-but-requires-2
+    (λ c. omega (arith, held-few (c .before .before .before .before), c .before .before .before .before .before .before .before .before .before .pre .0))  -- array-share-prefix-held
+    slice-aggregate-updated  -- slice-aggregate-updated
+    (λ c. omega (arith, listed-few-2 (c .before .before), c .before .before .before .before .before .before .before .before .before .before .pre .0))  -- array-share-prefix-indices
+    slice-aggregate-updated-2  -- slice-aggregate-updated-2
+    updated-requires  -- updated-requires
+    (λ c. search needs)  -- same-length
+    (λ c. search needs)  -- same-length-2
+    (λ c. rw (← lent-held (c .before .before .before .before .before .before .before .before .before .before .before .before .before), ← lent-listed (c .before .before .before .before .before .before .before .before .before .before)) (c .before .before .before .before .updated .ensures)))  -- returns

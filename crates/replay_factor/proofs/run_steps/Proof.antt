@@ -1,0 +1,30 @@
+use native.Mathlib.Omega.{arith}
+use Prim.Native.Nat.{_≤_, _-_}
+use Rattle.factoring.specs.Kept.{Good}
+use Rattle.factoring.specs.Laws.{good-new}
+use borrow.Author.Needs.{needs}
+use Rattle.replay_factor.proofs.run_steps.Statement.{statement}
+use Rattle.replay_factor.proofs.run_steps.Tie as tie
+
+abbrev Inv-loop : tie.InvT-loop
+Inv-loop s at q n originals steps w₀ counter₀ w counter = (counter ≤ steps) × Good originals (w .kept)
+
+abbrev μ-loop : tie.MeasureT-loop
+μ-loop s at q n originals steps w₀ counter₀ w counter = steps - counter
+
+pub run-steps-spec : {M : Type 1} → statement M
+run-steps-spec =
+    tie.close
+    (tie.spec
+    Inv-loop
+    μ-loop
+    (λ c κs. search needs)  -- new-requires
+    (λ c. (omega arith, rw (c .new .ensures) (good-new _)))  -- loop-holds
+    (λ c κs. let p = c .before .before .before .before .before .pre in (p .0, p .1, c .before .loop .inv .1))  -- step-requires
+    (λ c. search needs)  -- add-counter
+    (λ c. search needs)  -- loop-less
+    (λ c. (omega arith, c .step .ensures))  -- loop-again
+    (λ c κs. search needs)  -- one-if-requires
+    (λ c κs. search needs)  -- wrapping-add-usize-requires
+    (λ c κs. search needs)  -- differing-requires
+    (λ c. search needs))  -- returns
