@@ -4,7 +4,7 @@
  * caller's: the library keeps no pointer, allocates nothing and has no state, so that any number of threads may call it. What a call reads must
  * not change while it runs, and what it writes must overlap nothing that it reads.
  *
- * A result of 0 is success. Any other is a refusal, and a refused call writes nothing:
+ * A result of 0 is success. 100 is an answer without values (places_solve_kkt). Any other is a refusal. Whatever is not 0 writes nothing:
  *    1 torn           a header or body cut short, or a length its tag doesn't have
  *    2 strange tag    not 1 to 5
  *    3 out of turn    a falling tag, a second cap, no word, no cap
@@ -16,6 +16,11 @@
  *   11 not finite     a term of the objective
  *   12 no answer      the numbers don't reach: singular, or too ill-conditioned to solve
  *   15 overrun        gap outside signed 64 bits (kept for this; no input gives it)
+ *  100 no optimum     the objective falls without end, or no x satisfies the equations
+ *
+ * Each call says how much stack it needs, measured; all its work memory is there.
+ *
+ * To link it: rt staticlib capi, then cc program.c -Iinclude target/staticlib/libcapi.a
  */
 #ifndef PLACES_H
 #define PLACES_H
@@ -31,14 +36,15 @@ extern "C" {
  * each span, each within +-4,294,967,296, then the cap's, 0 to 4,294,967,296) for the block file `block`. The plan need keep no window, anchor,
  * span or cap. No plan that keeps them all costs less than this plan's cost less the gap.
  *
- * Refusals, in this order: the block's, 1 to 7; 9; 5 for times and prices; 15. On a refusal *gap keeps its value. */
+ * Refusals, in this order: the block's, 1 to 7; 9; 5 for times and prices; 15. On a refusal *gap keeps its value.
+ * Stack: 30 KB. */
 uint32_t places_check(const uint8_t *block, size_t block_len,
                       const int32_t *times, size_t times_len,
                       const int64_t *prices, size_t prices_len,
                       int64_t *gap);
 
 /* IEEE 754's square root of a binary64: the nearest one to the real root, ties to even. The root of -0 is -0, of +infinity +infinity, and of a
- * NaN or anything below zero a NaN. It refuses nothing. */
+ * NaN or anything below zero a NaN. It refuses nothing. Stack: less than 1 KB. */
 double places_sqrt(double x);
 
 /* The x that minimizes x'Kx/2 - c'x subject to E'x = b, and the multipliers of the equations, where Kx + E(multipliers) = c. K is n by n, E is n by m,
@@ -46,8 +52,9 @@ double places_sqrt(double x);
  *
  * Refusals: 9 where a count is too large or a slice has not the length that the counts give it (k n * n, c and x n, e n * m, b and multipliers m);
  * 11 where an entry of K or c, each over its variable's scale, is not finite; 12 where there is no variable, the average diagonal entry is negative
- * or not finite, the eigenvalues were not found, or the x that was found misses an equation. 100 is no refusal of the input but an answer: there is
- * no optimum, as the objective falls without end or no x satisfies the equations. Whatever is not 0 leaves x and multipliers as they were. */
+ * or not finite, the eigenvalues were not found, the residual of what was found overflows, or the x that was found is not finite or misses an
+ * equation. 100 is no refusal of the input but an answer: there is no optimum, as the objective falls without end or no x satisfies the equations.
+ * Whatever is not 0 leaves x and multipliers as they were. Stack: 70 KB. */
 uint32_t places_solve_kkt(const double *k, size_t k_len,
                           const double *c, size_t c_len,
                           const double *e, size_t e_len,

@@ -2,7 +2,7 @@
 //! benchmarks.
 
 use crate::eigen::{self, SymmetricEigen};
-use crate::matrix::{Cholesky, DMatrix, DVector, Entries};
+use crate::matrix::{Cholesky, DMatrix, DVector, Dyn, Entries};
 use crate::qp;
 
 fn square_matrix(a: &[f64], n: usize) -> DMatrix<f64> {
@@ -96,4 +96,81 @@ pub fn eigen(a: &[f64], n: usize) -> Option<(Vec<f64>, Vec<f64>)> {
             eigen.vectors.entries().to_vec(),
         )
     })
+}
+
+/// A matrix Q and the source's `Factoring` over it.
+pub struct Factoring {
+    q: DMatrix<f64>,
+    factoring: qp::Factoring,
+}
+
+impl Factoring {
+    /// No factor yet of the n × n matrix `q`.
+    pub fn new(q: &[f64], n: usize) -> Self {
+        Factoring {
+            q: square_matrix(q, n),
+            factoring: qp::Factoring::new(),
+        }
+    }
+
+    /// The factor of the block on `indices`. What is above its diagonal means nothing.
+    pub fn update(&mut self, indices: &[usize]) -> Option<Vec<f64>> {
+        let factor = self.factoring.update(&self.q, indices);
+        factor.map(|factor| factor.l_dirty().entries().to_vec())
+    }
+
+    pub fn reset(&mut self) {
+        self.factoring.reset();
+    }
+
+    /// The factor kept, changed to the block on `indices`, where that can be done.
+    pub fn updated(&self, indices: &[usize]) -> Option<Vec<f64>> {
+        let (held, factor) = self.factoring.factor.clone()?;
+        let changed = qp::updated(&self.q, held, factor, indices);
+        changed.map(|factor| factor.l_dirty().entries().to_vec())
+    }
+
+    /// The factor of the block on `indices`, with none before it.
+    pub fn fresh(&self, indices: &[usize]) -> Option<Vec<f64>> {
+        let mut factoring = qp::Factoring::new();
+        let factor = factoring.update(&self.q, indices);
+        factor.map(|factor| factor.l_dirty().entries().to_vec())
+    }
+
+    /// The last singular set.
+    pub fn singular(&self) -> Option<&[usize]> {
+        self.factoring.singular.as_deref()
+    }
+}
+
+/// A problem of `solve_factored`.
+pub struct Factored {
+    factor: Cholesky<f64, Dyn>,
+    k: DMatrix<f64>,
+    c: DVector<f64>,
+    e: DMatrix<f64>,
+    b: DVector<f64>,
+    noise: f64,
+}
+
+impl Factored {
+    /// The n × n factor `l` of `k`, and as many columns of `e` as `b` has numbers.
+    pub fn new(l: &[f64], [k, c, e, b]: [&[f64]; 4], noise: f64) -> Self {
+        let (n, m) = (c.len(), b.len());
+        Factored {
+            factor: Cholesky::from_factor(square_matrix(l, n)),
+            k: square_matrix(k, n),
+            c: DVector::from_slice(c),
+            e: DMatrix::from_column_slice(n, m, e),
+            b: DVector::from_slice(b),
+            noise,
+        }
+    }
+
+    /// x and the multipliers.
+    pub fn solve(&self) -> Option<(Vec<f64>, Vec<f64>)> {
+        let problem = (&self.k, &self.c, &self.e, &self.b);
+        let solution = qp::solve_factored(&self.factor, problem, self.noise);
+        solution.map(|(x, multipliers)| (x.entries().to_vec(), multipliers.entries().to_vec()))
+    }
 }

@@ -12,6 +12,8 @@ pub mod engine;
 mod error;
 pub mod exact;
 pub mod kernels;
+#[cfg(feature = "library")]
+pub mod library;
 mod matrix;
 mod qp;
 pub mod refusal;

@@ -8,6 +8,7 @@
 //!   one of [`solve_turnover_capped`] the accepted raise of the slopes too.
 //! - `Bounds::new` and `Bounds::nonnegative`, which nothing here calls, are left out.
 //! - Three places ask [`slipped`], which is false but in tests of known slips.
+//! - What [`crate::kernels`] calls is visible in the crate.
 
 use crate::CutupError;
 use crate::eigen::SymmetricEigen;
@@ -16,7 +17,7 @@ use crate::slips::{Slip, slipped};
 use std::cmp::Ordering;
 
 /// A solution `x` and its constraint multipliers `λ`.
-type Solution = (DVector<f64>, DVector<f64>);
+pub(crate) type Solution = (DVector<f64>, DVector<f64>);
 
 /// Solves `minimize ½ xᵀKx − cᵀx subject to Eᵀx = b` for a positive semidefinite `K`,
 /// returning `x` and the multipliers `λ` of the KKT system `Kx + Eλ = c`, `Eᵀx = b`.
@@ -1220,19 +1221,19 @@ pub(crate) fn positive_definite(cholesky: &Cholesky<f64, Dyn>) -> bool {
 /// kept from one iteration to the next. The free set usually gains or loses one variable an
 /// iteration, and updating `L` for that costs `O(k²)` for `k` free variables, where a fresh
 /// factor, or [`solve_noisy_kkt`]'s eigendecomposition, costs `O(k³)`.
-struct Factoring {
+pub(crate) struct Factoring {
     /// The free variables in increasing order, and the factor of their block.
-    factor: Option<(Vec<usize>, Cholesky<f64, Dyn>)>,
+    pub(crate) factor: Option<(Vec<usize>, Cholesky<f64, Dyn>)>,
     /// The last free set whose block was singular, or nearly so. Every set containing it is
     /// too, since every principal block of a positive definite matrix is positive definite.
-    singular: Option<Vec<usize>>,
+    pub(crate) singular: Option<Vec<usize>>,
     /// How many factors were computed afresh rather than updated.
     #[cfg(test)]
     factorizations: usize,
 }
 
 impl Factoring {
-    fn new() -> Self {
+    pub(crate) fn new() -> Self {
         Factoring {
             factor: None,
             singular: None,
@@ -1246,7 +1247,11 @@ impl Factoring {
     /// can, and otherwise computed afresh unless the block contains the last singular one. An
     /// update that finds the block singular is retried afresh too, since over many updates the
     /// factor drifts by rounding.
-    fn update(&mut self, q: &DMatrix<f64>, indices: &[usize]) -> Option<&Cholesky<f64, Dyn>> {
+    pub(crate) fn update(
+        &mut self,
+        q: &DMatrix<f64>,
+        indices: &[usize],
+    ) -> Option<&Cholesky<f64, Dyn>> {
         let updated = self
             .factor
             .take()
@@ -1278,7 +1283,7 @@ impl Factoring {
 
     /// Drops the factor, as when its solution missed [`within_rounding`], which a factor drifted
     /// over many updates can, so that the next one is computed afresh.
-    fn reset(&mut self) {
+    pub(crate) fn reset(&mut self) {
         self.factor = None;
     }
 }
@@ -1291,7 +1296,7 @@ impl Factoring {
 /// Also `None`, for a fresh factor instead, if more than a sixth of `indices` join: `j`
 /// insertions into a block of `k` cost about `2jk²`, and a fresh factor `k³/3`. That happens
 /// when every variable is freed at once.
-fn updated(
+pub(crate) fn updated(
     q: &DMatrix<f64>,
     mut held: Vec<usize>,
     mut cholesky: Cholesky<f64, Dyn>,
@@ -1330,7 +1335,7 @@ fn updated(
 /// multipliers solve `WᵀWλ = Wᵀh − b`, and `x = L⁻ᵀ(h − Wλ)`. `None` if `E`'s columns are
 /// dependent, or nearly so, since the multipliers aren't unique then, or if the solution fails
 /// [`within_rounding`]: the caller solves the problem with [`solve_noisy_kkt`] instead.
-fn solve_factored(
+pub(crate) fn solve_factored(
     cholesky: &Cholesky<f64, Dyn>,
     (k, c, e, b): (&DMatrix<f64>, &DVector<f64>, &DMatrix<f64>, &DVector<f64>),
     noise: f64,

@@ -1,6 +1,7 @@
 //! Replays the fixed lists of blocks, read as `docs/CASES.md` says.
 
 use reference::block;
+use reference::cases::lists::path;
 use reference::check::check;
 use reference::service::place;
 use std::collections::BTreeSet;
@@ -38,6 +39,10 @@ impl<'a> Bytes<'a> {
     }
 }
 
+fn list(program: &str) -> Vec<u8> {
+    std::fs::read(path(program)).expect("the list")
+}
+
 /// The bodies of a list's records.
 fn records(list: &[u8]) -> Vec<Bytes<'_>> {
     let mut rest = Bytes(list);
@@ -50,8 +55,8 @@ fn records(list: &[u8]) -> Vec<Bytes<'_>> {
 
 #[test]
 fn replay_blocks() {
-    let list = include_bytes!("../../crates/replay_blocks/stdin");
-    let records = records(list);
+    let list = list("replay_blocks");
+    let records = records(&list);
     assert!(records.len() >= 2_000);
     let mut read = BTreeSet::new();
     let mut checked = BTreeSet::new();
@@ -79,8 +84,8 @@ fn replay_blocks() {
 
 #[test]
 fn replay_places() {
-    let list = include_bytes!("../../crates/replay_places/stdin");
-    let records = records(list);
+    let list = list("replay_places");
+    let records = records(&list);
     let (mut solved, mut outcomes) = (0, BTreeSet::new());
     for mut record in records {
         let block = record.counted();

@@ -1,13 +1,13 @@
 //! The fixed lists, read back and run again.
 
 use reference::cases::code::Decoder;
+use reference::cases::factor::{Record, agree};
+use reference::cases::lists::path;
 use reference::cases::{algebra, engine};
 use std::collections::BTreeMap;
-use std::path::Path;
 
 fn list(program: &str) -> Vec<u8> {
-    let path = Path::new(env!("CARGO_MANIFEST_DIR")).join("../crates");
-    std::fs::read(path.join(program).join("stdin")).expect("the list")
+    std::fs::read(path(program)).expect("the list")
 }
 
 /// How often each outcome occurs in a call's list, every record's outcome being the reference's.
@@ -68,8 +68,32 @@ fn kernels() {
 }
 
 #[test]
+fn factors() {
+    let bytes = list("replay_factor");
+    let mut records = Decoder::new(&bytes);
+    let (mut sequences, mut systems) = (0, 0);
+    while !records.at_end() {
+        match Record::decode(records.record()) {
+            Record::Sequence(sequence, outcomes) => {
+                assert!((5..=40).contains(&outcomes.len()));
+                let updates = sequence.run();
+                assert_eq!(updates.len(), outcomes.len());
+                let mut both = updates.iter().zip(&outcomes);
+                assert!(both.all(|((a, _), b)| a.agrees(b)), "{sequence:?}");
+                sequences += 1;
+            }
+            Record::System(system, solution) => {
+                assert!(agree(&system.run(), &solution), "{system:?}");
+                systems += 1;
+            }
+        }
+    }
+    assert!(sequences >= 300 && systems >= 500);
+}
+
+#[test]
 fn lists_are_small() {
-    let programs = ["algebra", "kkt", "bounded", "piecewise", "capped"];
+    let programs = ["algebra", "kkt", "bounded", "piecewise", "capped", "factor"];
     let sizes = programs.map(|program| list(&format!("replay_{program}")).len());
-    assert!(sizes.iter().sum::<usize>() < 2_600_000);
+    assert!(sizes.iter().sum::<usize>() < 3_000_000);
 }

@@ -1,8 +1,9 @@
-//! Times the arithmetic's kernels, which the crate `probe` exports, against the reference.
+//! Times the arithmetic's kernels, which the crate `probe` exports, against the reference, and
+//! prints a table.
 //!
 //!     cargo run --release --offline --features library --bin bench_kernels
 
-use reference::bench::measure;
+use reference::bench::{Table, definite};
 use reference::kernels;
 use reference::rng::Rng;
 
@@ -12,9 +13,11 @@ unsafe extern "C" {
     fn probe_dot(a: *const f64, a_len: usize, b: *const f64, b_len: usize) -> f64;
     fn probe_cholesky(a: *mut f64, a_len: usize, n: usize) -> u32;
     fn probe_eigen(
-        a: *const f64,
+        a: *mut f64,
         a_len: usize,
         n: usize,
+        room: *mut f64,
+        room_len: usize,
         values: *mut f64,
         values_len: usize,
         vectors: *mut f64,
@@ -37,13 +40,16 @@ fn cholesky(a: &[f64]) -> (u32, Vec<f64>) {
 }
 
 fn eigen(a: &[f64]) -> (u32, Vec<f64>, Vec<f64>) {
+    let (mut a, mut room) = (a.to_vec(), vec![0.0; N * N]);
     let (mut values, mut vectors) = (vec![0.0; N], vec![0.0; N * N]);
     // SAFETY: each pointer is that of a slice of the length after it.
     let found = unsafe {
         probe_eigen(
-            a.as_ptr(),
+            a.as_mut_ptr(),
             a.len(),
             N,
+            room.as_mut_ptr(),
+            room.len(),
             values.as_mut_ptr(),
             values.len(),
             vectors.as_mut_ptr(),
@@ -53,38 +59,27 @@ fn eigen(a: &[f64]) -> (u32, Vec<f64>, Vec<f64>) {
     (found, values, vectors)
 }
 
-/// A symmetric matrix with a dominant diagonal.
-fn definite(rng: &mut Rng) -> Vec<f64> {
-    let mut a = vec![0.0; N * N];
-    for j in 0..N {
-        for i in j..N {
-            let entry = rng.unit() + if i == j { N as f64 } else { 0.0 };
-            a[i + j * N] = entry;
-            a[j + i * N] = entry;
-        }
-    }
-    a
-}
-
 fn main() {
     let mut rng = Rng::new(1);
     let numbers: Vec<f64> = (0..4096).map(|_| rng.unit() * 1e6).collect();
     let mut column = || (0..48).map(|_| rng.unit() - 0.5).collect::<Vec<f64>>();
     let pairs: Vec<_> = (0..64).map(|_| (column(), column())).collect();
-    let matrices: Vec<_> = (0..8).map(|_| definite(&mut rng)).collect();
+    let matrices: Vec<_> = (0..8).map(|_| definite(&mut rng, N)).collect();
 
-    measure("sqrt", &numbers, |x| x.sqrt(), |&x| probe_sqrt(x));
-    measure("dot of 48", &pairs, |(a, b)| kernels::dot(a, b), dot);
-    measure(
+    let mut table = Table::default();
+    table.measure("root", &numbers, |x| x.sqrt(), |&x| probe_sqrt(x));
+    table.measure("dot of 48", &pairs, |(a, b)| kernels::dot(a, b), dot);
+    table.measure(
         "Cholesky of 32",
         &matrices,
         |a| kernels::cholesky(a, N),
         |a| cholesky(a),
     );
-    measure(
-        "eigen of 32",
+    table.measure(
+        "eigenvectors of 32",
         &matrices,
         |a| kernels::eigen(a, N),
         |a| eigen(a),
     );
+    table.print();
 }

@@ -3,47 +3,42 @@
 //!     cargo run --release --offline --bin cases -- lists SEED
 //!     cargo run --release --offline --bin cases -- count SEED COUNT
 //!
-//! `lists` writes the lists into `crates/replay_*/stdin` and prints what they hold. `count` runs
-//! that many cases of each call, of all sizes, and prints their outcomes.
+//! `lists` writes the lists, each the standard input of its program `crates/replay_*` or, until
+//! there is such a program, a file in `lists`, and prints what they hold. `count` runs that many
+//! cases of each call, of all sizes, and prints their outcomes.
 
 use reference::cases::engine::Call;
 use reference::cases::families::{Generator, Style};
-use reference::cases::lists::{self, Counts, List};
-use std::path::Path;
+use reference::cases::lists::{self, Counts};
 use std::time::Instant;
 
-fn main() {
+fn main() -> std::io::Result<()> {
     let arguments: Vec<String> = std::env::args().skip(1).collect();
     let number = |text: &String| text.parse().expect("a number");
     match arguments.as_slice() {
         [word, seed] if word == "lists" => write_lists(number(seed)),
-        [word, seed, count] if word == "count" => count_outcomes(number(seed), number(count)),
+        [word, seed, count] if word == "count" => {
+            count_outcomes(number(seed), number(count));
+            Ok(())
+        }
         _ => panic!("usage: cases lists SEED | cases count SEED COUNT"),
     }
 }
 
-fn write_lists(seed: u64) {
-    write("replay_algebra", || lists::algebra(seed));
+fn write_lists(seed: u64) -> std::io::Result<()> {
+    lists::algebra(seed).write("replay_algebra")?;
     for (program, call, count) in [
         ("replay_kkt", Call::Kkt, 2000),
         ("replay_bounded", Call::Bounded, 1200),
         ("replay_piecewise", Call::Piecewise, 1200),
         ("replay_capped", Call::Capped, 1200),
     ] {
-        write(program, || lists::engine(call, seed, count));
+        lists::engine(call, seed, count).write(program)?;
     }
-}
-
-fn write(program: &str, make: impl Fn() -> List) {
-    let list = make();
-    let path = Path::new(env!("CARGO_MANIFEST_DIR"))
-        .join("../crates")
-        .join(program);
-    std::fs::create_dir_all(&path).expect("the program's folder");
-    std::fs::write(path.join("stdin"), &list.bytes).expect("the list");
-    let (records, bytes) = (list.counts.total(), list.bytes.len());
-    println!("### {program}\n\n{records} records, {bytes} bytes.\n");
-    println!("{}", list.counts.table());
+    let factors = lists::factors(seed);
+    factors.list.write("replay_factor")?;
+    println!("{}\n{}", factors.updates.table(), factors.systems.table());
+    Ok(())
 }
 
 fn count_outcomes(seed: u64, count: u64) {

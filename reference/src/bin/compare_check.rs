@@ -7,19 +7,7 @@ use reference::cases::lists::Counts;
 use reference::cases::scale::check_case;
 use reference::check::check;
 use reference::compare;
-
-#[link(name = "capi", kind = "static")]
-unsafe extern "C" {
-    fn places_check(
-        block: *const u8,
-        block_length: usize,
-        times: *const i32,
-        times_length: usize,
-        prices: *const i64,
-        prices_length: usize,
-        gap: *mut i64,
-    ) -> u32;
-}
+use reference::library;
 
 /// What stands in the gap before each call.
 const UNTOUCHED: i64 = 0x5A5A_5A5A_5A5A_5A5A;
@@ -36,19 +24,7 @@ fn reference(block: &[u8], times: &[i32], prices: &[i64]) -> Outcome {
 
 fn library(block: &[u8], times: &[i32], prices: &[i64]) -> Outcome {
     let mut gap = UNTOUCHED;
-    // SAFETY: each pointer and length is of a slice that lives until the call ends, and `gap` is
-    // this function's own.
-    let number = unsafe {
-        places_check(
-            block.as_ptr(),
-            block.len(),
-            times.as_ptr(),
-            times.len(),
-            prices.as_ptr(),
-            prices.len(),
-            &mut gap,
-        )
-    };
+    let number = library::check(block, times, prices, &mut gap);
     (number, gap)
 }
 

@@ -5,11 +5,7 @@
 use reference::cases::algebra::{Generator, Kind};
 use reference::cases::code::same;
 use reference::compare::arguments;
-
-#[link(name = "capi", kind = "static")]
-unsafe extern "C" {
-    safe fn places_sqrt(x: f64) -> f64;
-}
+use reference::library;
 
 fn main() {
     let (seed, count) = arguments();
@@ -20,7 +16,7 @@ fn main() {
         .map(f64::from_bits);
     let (mut total, mut differences) = (0u64, 0u64);
     for x in exponents.chain(seeded) {
-        let (expected, given) = (x.sqrt(), places_sqrt(x));
+        let (expected, given) = (x.sqrt(), library::sqrt(x));
         total += 1;
         if !same(expected, given) {
             differences += 1;

@@ -136,7 +136,7 @@ impl Case {
 }
 
 /// The lower triangle of an n × n matrix, column after column.
-fn lower(a: &[f64], n: usize) -> Vec<f64> {
+pub fn lower(a: &[f64], n: usize) -> Vec<f64> {
     (0..n)
         .flat_map(|j| a[j + j * n..n + j * n].iter().copied())
         .collect()

@@ -2,12 +2,15 @@
 
 use super::algebra;
 use super::engine::{Call, Case};
+use super::factor;
 use super::families::{Generator, Style};
 use super::made;
 use std::collections::{BTreeMap, BTreeSet};
+use std::path::{Path, PathBuf};
 
-/// No record's body is longer.
+/// No record's body is longer, but for a sequence of free sets.
 pub const LONGEST_BODY: usize = 16_000;
+pub const LONGEST_SEQUENCE: usize = 24_000;
 
 /// A list and what it holds.
 #[derive(Debug, Default)]
@@ -19,7 +22,17 @@ pub struct List {
 impl List {
     /// Adds a record, unless its body is too long.
     pub fn push(&mut self, group: &'static str, outcome: u32, body: &[u8]) -> bool {
-        let fits = body.len() <= LONGEST_BODY;
+        self.push_up_to(LONGEST_BODY, group, outcome, body)
+    }
+
+    fn push_up_to(
+        &mut self,
+        longest: usize,
+        group: &'static str,
+        outcome: u32,
+        body: &[u8],
+    ) -> bool {
+        let fits = body.len() <= longest;
         if fits {
             let length = body.len() as u16;
             self.bytes.extend(length.to_le_bytes());
@@ -27,6 +40,26 @@ impl List {
             self.counts.add(group, outcome);
         }
         fits
+    }
+
+    /// Writes the list of a program and prints what it holds.
+    pub fn write(&self, program: &str) -> std::io::Result<()> {
+        std::fs::write(path(program), &self.bytes)?;
+        let (records, bytes) = (self.counts.total(), self.bytes.len());
+        println!("### {program}\n\n{records} records, {bytes} bytes.\n");
+        println!("{}", self.counts.table());
+        Ok(())
+    }
+}
+
+/// Where the list of a program is: its standard input, or `reference/lists` until there is such a
+/// program.
+pub fn path(program: &str) -> PathBuf {
+    let reference = Path::new(env!("CARGO_MANIFEST_DIR"));
+    let folder = reference.join("../crates").join(program);
+    match folder.join("src").exists() {
+        true => folder.join("stdin"),
+        false => reference.join("lists").join(program),
     }
 }
 
@@ -122,4 +155,48 @@ pub fn algebra(seed: u64) -> List {
         }
     }
     list
+}
+
+/// The list of the factor, with the ways of its updates and the outcomes of its systems by family.
+#[derive(Default)]
+pub struct Factors {
+    pub list: List,
+    pub updates: Counts,
+    pub systems: Counts,
+}
+
+pub fn factors(seed: u64) -> Factors {
+    let mut factors = Factors::default();
+    for (family, (_, count)) in factor::SEQUENCES.into_iter().enumerate() {
+        for number in 0..count {
+            factors.push_sequence(factor::Generator::sequence(family, seed, number));
+        }
+    }
+    for (family, (_, count)) in factor::SYSTEMS.into_iter().enumerate() {
+        for number in 0..count {
+            factors.push_system(factor::Generator::system(family, seed, number));
+        }
+    }
+    factors
+}
+
+impl Factors {
+    fn push_sequence(&mut self, sequence: factor::Sequence) {
+        let outcomes = sequence.run();
+        let body = sequence.encode(&outcomes);
+        let fits = self.list.push_up_to(LONGEST_SEQUENCE, "sequence", 0, &body);
+        assert!(fits, "a body of {} bytes", body.len());
+        for (_, way) in &outcomes {
+            self.updates.add(sequence.family, *way as u32);
+        }
+    }
+
+    fn push_system(&mut self, system: factor::System) {
+        let solution = system.run();
+        let outcome = u32::from(solution.is_none());
+        let body = system.encode(&solution);
+        let fits = self.list.push("system", outcome, &body);
+        assert!(fits, "a body of {} bytes", body.len());
+        self.systems.add(system.family, outcome);
+    }
 }

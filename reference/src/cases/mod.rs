@@ -7,6 +7,7 @@ pub mod block_lists;
 pub mod code;
 pub mod damage;
 pub mod engine;
+pub mod factor;
 pub mod families;
 pub mod known;
 pub mod lists;
@@ -15,7 +16,7 @@ pub mod scale;
 pub mod slips;
 
 /// The n × n matrix of `entry`, column after column.
-fn matrix(n: usize, entry: impl Fn(usize, usize) -> f64) -> Vec<f64> {
+pub(crate) fn matrix(n: usize, entry: impl Fn(usize, usize) -> f64) -> Vec<f64> {
     (0..n)
         .flat_map(|j| (0..n).map(move |i| (i, j)))
         .map(|(i, j)| entry(i, j))
