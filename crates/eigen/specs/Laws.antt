@@ -16,7 +16,7 @@ use Rattle.vector.specs.Laws.{length-filled}
 use Rattle.matrix.specs.Matrix.{cell, identity}
 use Rattle.matrix.specs.Laws.{length-identity}
 use Rattle.eigen.specs.declared.Turn.{Turn}
-use Rattle.eigen.specs.Eigen.{State, turnInRow, turnColumns, rotate, sweepRow, sweep, pass, sweeps, Eigen, eigen, nothing, symmetric, values, answer, given, tolerance, start, jacobi, symmetricEigen, range}
+use Rattle.eigen.specs.Eigen.{State, turnInRow, turnColumns, rotate, sweepRow, sweep, pass, sweeps, Eigen, eigen, nothing, symmetric, values, answer, given, tolerance, start, jacobi, symmetricEigen, range, null}
 
 pub length-symmetric : (n : ℕ) (r : List Float) → length (symmetric n r) ≡ n * n
 unfolding symmetric
@@ -106,3 +106,11 @@ module _ (n : ℕ) (values : List Float) (cutoff : Float) where
   pub range-below : Below (length (range n values cutoff)) (range n values cutoff) n
   unfolding range
   range-below i h = chosen-below n _ i h
+
+  pub null-few : length (null n values cutoff) ≤ n
+  unfolding null
+  null-few = length-chosen n _
+
+  pub null-below : Below (length (null n values cutoff)) (null n values cutoff) n
+  unfolding null
+  null-below i h = chosen-below n _ i h

@@ -1,2 +1,3 @@
 pub mod Householder
+pub mod Laws
 pub mod Known

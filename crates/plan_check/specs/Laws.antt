@@ -22,7 +22,7 @@ use Rattle.block.specs.Fits.{gap-b}
 use Rattle.format.specs.Read as Read
 use Rattle.format.specs.declared.Block as Held
 use Rattle.format.specs.declared.Verdict.{Verdict}
-use Rattle.format.specs.declared.Verdict.the-variants.{Accepted, BadLength, UnknownTag, OutOfOrder, TooMany, OutOfRange, CrossedBounds, BadList}
+use Rattle.format.specs.Laws.{refusal-nonzero}
 use Rattle.format.specs.Structs.{blockOf, Sound}
 use Rattle.format.specs.Entries.{words-length, anchors-length, spans-length}
 use Rattle.gap.specs.Prices.{priceCount, pricesFrom}
@@ -152,28 +152,6 @@ module _ (s : List ℕ) (x p : List ℤ) where
         (sym (pick-true (eqb (refusalOf b x p) 0) _ (eq-eqb (refusalOf b x p) 0 z) (pick-true (fits64 (gap b x (pricesFrom b p))) _ f refl)))
 
 -- ---- what the call promises, by the cases of the code
-nonzero : (v : Verdict) → Read.accepted v ≡ false → Read.number v ≡ 0 → ⊥
-unfolding Read.accepted Read.number
-nonzero Accepted e q = let z : _≡_ {A = ℕ} 0 1 = cc in omega arith
-nonzero BadLength e q = omega arith
-nonzero UnknownTag e q = omega arith
-nonzero OutOfOrder e q = omega arith
-nonzero TooMany e q = omega arith
-nonzero OutOfRange e q = omega arith
-nonzero CrossedBounds e q = omega arith
-nonzero BadList e q = omega arith
-
-pub number-small : (v : Verdict) → Read.number v ≤ 7
-unfolding Read.number
-number-small Accepted = lit≤ tt
-number-small BadLength = lit≤ tt
-number-small UnknownTag = lit≤ tt
-number-small OutOfOrder = lit≤ tt
-number-small TooMany = lit≤ tt
-number-small OutOfRange = lit≤ tt
-number-small CrossedBounds = lit≤ tt
-number-small BadList = lit≤ tt
-
 module _ (s : List ℕ) (v : Verdict) (b : Block) (e : Read.outcome v b ≡ Read.read s) where
   is-refused : Read.accepted v ≡ false → Read.read s ≡ Read.Outcome.refused (Read.number v)
   is-refused f = sym e ∙ sym (pick-false (Read.accepted v) (Read.Outcome.block b) f refl)
@@ -188,7 +166,7 @@ module _ (s : List ℕ) (v : Verdict) (b : Block) (e : Read.outcome v b ≡ Read
 
     -- the block is refused
     pub block-refused : {r : ℕ} → Read.accepted v ≡ false → r ≡ Read.number v → Answered s x p old r old
-    block-refused f q = refuses (Read.number v) (check-refused s x p (Read.number v) (is-refused f)) q (nonzero v f)
+    block-refused f q = refuses (Read.number v) (check-refused s x p (Read.number v) (is-refused f)) q (refusal-nonzero v f)
 
     -- the plan or the prices are
     pub plan-refused : {r : ℕ} → Read.accepted v ≡ true → r ≡ refusalOf b x p → (r ≡ 0 → ⊥) → Answered s x p old r old

@@ -100,7 +100,8 @@ pub fn checked(x: &[f64], e: &[f64], b: &[f64], columns: &[f64], n: usize, m: us
     true
 }
 
-fn scale_or_1(s: f64) -> f64
+// s if it's finite and above 0, or 1.
+pub fn scale_or_1(s: f64) -> f64
     ensures { λ r. ⌜ r ≡ Units.scaleOr1 s ⌝ }
 {
     if arith::is_finite(s) {

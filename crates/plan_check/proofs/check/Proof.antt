@@ -1,6 +1,7 @@
 use Rattle.folds.specs.Kit.{sym, _∙_, arith, needs}
 use mir.Facts.{toZ-ofZ}
-use Rattle.plan_check.specs.Laws.{passed, number-small, block-refused, plan-refused, gap-given}
+use Rattle.format.specs.Laws.{number-small}
+use Rattle.plan_check.specs.Laws.{passed, block-refused, plan-refused, gap-given}
 use Rattle.plan_check.proofs.check.Statement.{statement}
 use Rattle.plan_check.proofs.check.Tie as tie
 
