@@ -1,0 +1,155 @@
+// qp.rs: the free variables of a pass: their list, its split into variables and slacks, and the ends and slopes of their segments.
+use segments::Segments;
+use segments::Spot;
+use segments::State;
+ghost use mathlib.Core.Path.{_≡_};
+ghost use Prim.Native.Nat.{_≤_, _<_};
+ghost use lib.ListN.{length, take};
+ghost use Rattle.folds.specs.Fold.{over};
+ghost use Rattle.folds.specs.Position.{partitionPoint};
+ghost use Rattle.sizes.specs.Sizes as Sizes;
+ghost use Rattle.segments.specs.Segments.{Cut, IsFree, Placed, AllCut, AllPlaced, last as lastOf};
+ghost use Rattle.free_list.specs.FreeList as FreeList;
+
+// The variables, the leading part of `indices`; the slacks are the rest.
+pub fn split_slacks<'a>(indices: &'a [usize], originals: usize) -> &'a [usize]
+    ensures { λ r. ⌜ now r ≡ take (partitionPoint originals (now (indices .entry))) (now (indices .entry)) ⌝ }
+{
+    for i in 0..indices.len() {
+        if indices[i] >= originals {
+            return &indices[..i];
+        }
+    }
+    indices
+}
+
+fn is_free(spot: Spot) -> bool
+    ensures { λ r. ⌜ r ≡ FreeList.isFree (spot .state) ⌝ }
+{
+    let state = spot.state;
+    match state {
+        State::At(_) => false,
+        State::Free(_) => true,
+    }
+}
+
+// The free ones of the first n, over the start of `indices`, and how many they are.
+pub fn free_indices(state: [Spot; sizes::VARIABLES], n: usize, indices: &mut [usize]) -> usize
+    requires { ⌜ (n ≤ Sizes.variables) × (n ≤ length (now indices)) ⌝ }
+    ensures { λ r. ⌜ (r ≡ length (FreeList.freeIndices n state))
+        × (now (indices .exit) ≡ over (FreeList.freeIndices n state) (now (indices .entry))) ⌝ }
+{
+    let mut count = 0;
+    for i in 0..n {
+        count = vector::push_if(is_free(state[i]), i, count, indices);
+    }
+    count
+}
+
+// What is read of a segment: an end of it, or the slope on it.
+enum Entry {
+    Lower,
+    Upper,
+    Slope,
+}
+
+fn entry_at(which: Entry, s: Segments, j: usize) -> f64
+    requires { ⌜ Cut s × (j < lastOf s) ⌝ }
+    ensures { λ r. ⌜ r ≡ FreeList.entryAt which s j ⌝ }
+{
+    match which {
+        Entry::Lower => s.point(j),
+        Entry::Upper => s.point(j + 1),
+        Entry::Slope => s.slope(j),
+    }
+}
+
+// Of the segment that a variable is free in.
+fn entry_of(which: Entry, spot: Spot, s: Segments) -> f64
+    requires { ⌜ Cut s × IsFree (spot .state) × Placed s (spot .state) ⌝ }
+    ensures { λ r. ⌜ FreeList.EntryOf which s (spot .state) r ⌝ }
+{
+    let state = spot.state;
+    entry_at(which, s, segments::segment_of(state))
+}
+
+// Those of the first k of the free variables.
+fn entries(
+    which: Entry,
+    segments: [Segments; sizes::VARIABLES],
+    state: [Spot; sizes::VARIABLES],
+    n: usize,
+    indices: &[usize],
+    k: usize,
+    y: &mut [f64],
+)
+    requires { ⌜ (n ≤ Sizes.variables)
+        × AllCut n segments
+        × AllPlaced n segments state
+        × (now indices ≡ FreeList.freeIndices n state)
+        × (k ≤ length (now indices))
+        × (k ≤ length (now y)) ⌝ }
+    ensures { λ _. ⌜ now (y .exit) ≡ over (FreeList.entries which k n segments state) (now (y .entry)) ⌝ }
+{
+    for t in 0..k {
+        let i = indices[t];
+        y[t] = entry_of(which, state[i], segments[i]);
+    }
+}
+
+pub fn lower_ends(
+    segments: [Segments; sizes::VARIABLES],
+    state: [Spot; sizes::VARIABLES],
+    n: usize,
+    indices: &[usize],
+    k: usize,
+    lower: &mut [f64],
+)
+    requires { ⌜ (n ≤ Sizes.variables)
+        × AllCut n segments
+        × AllPlaced n segments state
+        × (now indices ≡ FreeList.freeIndices n state)
+        × (k ≤ length (now indices))
+        × (k ≤ length (now lower)) ⌝ }
+    ensures { λ _. ⌜ now (lower .exit) ≡ over (FreeList.lowerEnds k n segments state) (now (lower .entry)) ⌝ }
+{
+    entries(Entry::Lower, segments, state, n, indices, k, lower);
+}
+
+pub fn upper_ends(
+    segments: [Segments; sizes::VARIABLES],
+    state: [Spot; sizes::VARIABLES],
+    n: usize,
+    indices: &[usize],
+    k: usize,
+    upper: &mut [f64],
+)
+    requires { ⌜ (n ≤ Sizes.variables)
+        × AllCut n segments
+        × AllPlaced n segments state
+        × (now indices ≡ FreeList.freeIndices n state)
+        × (k ≤ length (now indices))
+        × (k ≤ length (now upper)) ⌝ }
+    ensures { λ _. ⌜ now (upper .exit) ≡ over (FreeList.upperEnds k n segments state) (now (upper .entry)) ⌝ }
+{
+    entries(Entry::Upper, segments, state, n, indices, k, upper);
+}
+
+pub fn slopes(
+    segments: [Segments; sizes::VARIABLES],
+    state: [Spot; sizes::VARIABLES],
+    n: usize,
+    indices: &[usize],
+    k: usize,
+    slope: &mut [f64],
+)
+    requires { ⌜ (n ≤ Sizes.variables)
+        × AllCut n segments
+        × AllPlaced n segments state
+        × (now indices ≡ FreeList.freeIndices n state)
+        × (k ≤ length (now indices))
+        × (k ≤ length (now slope)) ⌝ }
+    ensures { λ _. ⌜ now (slope .exit) ≡ over (FreeList.slopes k n segments state) (now (slope .entry)) ⌝ }
+{
+    entries(Entry::Slope, segments, state, n, indices, k, slope);
+}

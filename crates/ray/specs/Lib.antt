@@ -1,0 +1,2 @@
+pub mod Ray
+pub mod Laws

@@ -1,0 +1,228 @@
+// qp.rs: which held variable leaves the active set, at an equality-constrained optimum. Of up to 48 variables and slacks.
+use segments::Segments;
+use segments::Spot;
+use segments::State;
+ghost use mathlib.Core.Path.{_≡_};
+ghost use Prim.Native.Nat.{_≤_, _<_};
+ghost use lib.ListN.{length};
+ghost use Rattle.sizes.specs.Sizes as Sizes;
+ghost use Rattle.segments.specs.Segments.{Cut, Placed, AllCut, AllPlaced, last as lastOf};
+ghost use Rattle.releasing.specs.Release as Rule;
+
+// The rate at which the objective falls as a held variable moves into a segment next to it, and that segment.
+pub enum Descent {
+    Into(f64, usize),
+    Nowhere,
+}
+
+// A rate that counts: above `least`.
+fn counted(rate: f64, segment: usize, least: f64) -> Descent
+    ensures { λ r. ⌜ r ≡ Rule.counted rate segment least ⌝ }
+{
+    if rate > least {
+        return Descent::Into(rate, segment);
+    }
+    Descent::Nowhere
+}
+
+// Up into segment p.
+fn up(s: Segments, p: usize, nu: f64, least: f64) -> Descent
+    requires { ⌜ Cut s × (p ≤ lastOf s) ⌝ }
+    ensures { λ r. ⌜ r ≡ Rule.up s p nu least ⌝ }
+{
+    if p < s.last() {
+        return counted(-(nu + s.slope(p)), p, least);
+    }
+    Descent::Nowhere
+}
+
+// Down into segment p - 1.
+fn down(s: Segments, p: usize, nu: f64, least: f64) -> Descent
+    requires { ⌜ Cut s × (p ≤ lastOf s) ⌝ }
+    ensures { λ r. ⌜ r ≡ Rule.down s p nu least ⌝ }
+{
+    if p > 0 {
+        let segment = p - 1;
+        return counted(nu + s.slope(segment), segment, least);
+    }
+    Descent::Nowhere
+}
+
+// The first that counts: match (up, down).
+fn or_else(first: Descent, second: Descent) -> Descent
+    ensures { λ r. ⌜ r ≡ Rule.orElse first second ⌝ }
+{
+    let Descent::Into(_, _) = first else {
+        return second;
+    };
+    first
+}
+
+// Up before down.
+fn held_descent(s: Segments, p: usize, nu: f64, least: f64) -> Descent
+    requires { ⌜ Cut s × (p ≤ lastOf s) ⌝ }
+    ensures { λ r. ⌜ r ≡ Rule.heldDescent s p nu least ⌝ }
+{
+    or_else(up(s, p, nu, least), down(s, p, nu, least))
+}
+
+// Of one that is neither fixed nor free.
+fn wrong_one(fixed: bool, spot: Spot, s: Segments, nu: f64, least: f64) -> Descent
+    requires { ⌜ Cut s × Placed s (spot .state) ⌝ }
+    ensures { λ r. ⌜ r ≡ Rule.wrongOne fixed (spot .state) s nu least ⌝ }
+{
+    if fixed {
+        return Descent::Nowhere;
+    }
+    let state = spot.state;
+    match state {
+        State::At(p) => held_descent(s, p, nu, least),
+        State::Free(_) => Descent::Nowhere,
+    }
+}
+
+// A rate, its variable and the segment.
+pub enum Fastest {
+    Found(f64, usize, usize),
+    Nothing,
+}
+
+// The larger of two rates, and the last where they are equal.
+fn faster(best: Fastest, i: usize, rate: f64, segment: usize) -> Fastest
+    ensures { λ r. ⌜ r ≡ Rule.faster best i rate segment ⌝ }
+{
+    let Fastest::Found(largest, _, _) = best else {
+        return Fastest::Found(rate, i, segment);
+    };
+    if arith::total_less(rate, largest) {
+        return best;
+    }
+    Fastest::Found(rate, i, segment)
+}
+
+// Variable i, unless it is refused.
+fn faster_one(refused: bool, wrong: Descent, i: usize, best: Fastest) -> Fastest
+    ensures { λ r. ⌜ r ≡ Rule.fasterOne refused wrong i best ⌝ }
+{
+    if refused {
+        return best;
+    }
+    let Descent::Into(rate, segment) = wrong else {
+        return best;
+    };
+    faster(best, i, rate, segment)
+}
+
+// The variable that enters, of the first n.
+fn entering(
+    segments: [Segments; sizes::VARIABLES],
+    state: [Spot; sizes::VARIABLES],
+    fixed: &[bool],
+    refused: &[bool],
+    gradient: &[f64],
+    pushback: &[f64],
+    n: usize,
+    least: f64,
+) -> Fastest
+    requires { ⌜ (n ≤ Sizes.variables)
+        × (n ≤ length (now fixed))
+        × (n ≤ length (now refused))
+        × (n ≤ length (now gradient))
+        × (n ≤ length (now pushback))
+        × AllCut n segments
+        × AllPlaced n segments state ⌝ }
+    ensures { λ r. ⌜ r
+        ≡ Rule.entering n segments state (now (fixed .entry)) (now (refused .entry)) (now (gradient .entry)) (now (pushback .entry)) least ⌝ }
+{
+    let mut best = Fastest::Nothing;
+    for i in 0..n {
+        let nu = gradient[i] + pushback[i];
+        let wrong = wrong_one(fixed[i], state[i], segments[i], nu, least);
+        best = faster_one(refused[i], wrong, i, best);
+    }
+    best
+}
+
+fn is_into(wrong: Descent) -> bool
+    ensures { λ r. ⌜ r ≡ Rule.isInto wrong ⌝ }
+{
+    match wrong {
+        Descent::Into(_, _) => true,
+        Descent::Nowhere => false,
+    }
+}
+
+// Whether one of the first n would lower the objective, refused or not.
+fn any_wrong(
+    segments: [Segments; sizes::VARIABLES],
+    state: [Spot; sizes::VARIABLES],
+    fixed: &[bool],
+    gradient: &[f64],
+    pushback: &[f64],
+    n: usize,
+    least: f64,
+) -> bool
+    requires { ⌜ (n ≤ Sizes.variables)
+        × (n ≤ length (now fixed))
+        × (n ≤ length (now gradient))
+        × (n ≤ length (now pushback))
+        × AllCut n segments
+        × AllPlaced n segments state ⌝ }
+    ensures { λ r. ⌜ r ≡ Rule.anyWrong n segments state (now (fixed .entry)) (now (gradient .entry)) (now (pushback .entry)) least ⌝ }
+{
+    for i in 0..n {
+        let nu = gradient[i] + pushback[i];
+        let wrong = wrong_one(fixed[i], state[i], segments[i], nu, least);
+        if is_into(wrong) {
+            return true;
+        }
+    }
+    false
+}
+
+// What follows: a variable enters, free in a segment; the point is the answer; or it is not, and no progress can be made.
+pub enum Outcome {
+    Enter(usize, usize),
+    Answer,
+    NotConverged,
+}
+
+pub fn release(
+    segments: [Segments; sizes::VARIABLES],
+    state: [Spot; sizes::VARIABLES],
+    fixed: &[bool],
+    refused: &[bool],
+    gradient: &[f64],
+    pushback: &[f64],
+    n: usize,
+    scale: f64,
+) -> Outcome
+    requires { ⌜ (n ≤ Sizes.variables)
+        × (n ≤ length (now fixed))
+        × (n ≤ length (now refused))
+        × (n ≤ length (now gradient))
+        × (n ≤ length (now pushback))
+        × AllCut n segments
+        × AllPlaced n segments state ⌝ }
+    ensures { λ r. ⌜ r
+        ≡ Rule.release n segments state (now (fixed .entry)) (now (refused .entry)) (now (gradient .entry)) (now (pushback .entry)) scale ⌝ }
+{
+    let least = 1e-9 * scale;
+    let best = entering(
+        segments,
+        state,
+        fixed,
+        refused,
+        gradient,
+        pushback,
+        n,
+        least,
+    );
+    let Fastest::Found(_, i, segment) = best else {
+        if any_wrong(segments, state, fixed, gradient, pushback, n, least) {
+            return Outcome::NotConverged;
+        }
+        return Outcome::Answer;
+    };
+    Outcome::Enter(i, segment)
+}
