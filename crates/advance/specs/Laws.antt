@@ -1,0 +1,79 @@
+-- Laws of the definitions: where the step is blocked or made whole, and where a variable is released, each variable stays placed.
+use mathlib.Core.Path.{_≡_, sym, _∙_}
+use mathlib.Core.List.{List, map}
+use Prim.Native.Nat.{ℕ, _<_, _≤_}
+use native.Mathlib.Omega.{arith}
+use mathlib.Core.Bool.{Bool}
+use lib.ListN.{length, take, length-map}
+use lib.Ieee.{Float}
+use Rattle.matrix.specs.Matrix.{mulVec, index}
+use Rattle.segments.specs.Segments.{last, segmentsAt, AllCut, AllPlaced}
+use Rattle.segments.specs.Laws.{set-placed, free-all-placed}
+use Rattle.segments.specs.declared.State.the-variants.{Free}
+use Rattle.segments.specs.declared.Segments.{Segments}
+use Rattle.free_list.specs.FreeList.{freeIndices, freeSegments}
+use Rattle.free_list.specs.Laws.{listed-below, listed-segment}
+use Rattle.blocking.specs.Laws.{block-placed}
+use Rattle.blocking.specs.declared.Side.{Side}
+use Rattle.blocking.specs.declared.Released.{Released}
+use Rattle.blocking.specs.declared.Board.{Board}
+use Rattle.folds.specs.Fold.{Out, out}
+use Rattle.stepping.specs.Stepping.{moveAlong, settle}
+use Rattle.releasing.specs.Laws.{entered as enters}
+use Rattle.releasing.specs.declared.Outcome.the-variants.{Enter}
+use Rattle.iterate.specs.Iterate.{Kept}
+use Rattle.iterate.specs.declared.Iterate.{Iterate}
+use Rattle.advance.specs.Advance.{freeEverything, withBoard, stopped, cleared, settled, gradient, scale, release, entered}
+
+-- the length of an array that a struct holds, as the borrow checker tells it
+pub length-mapped : (X Y : Type 0) (f : X → Y) (l : List X) (n : ℕ) → length (map f l) ≡ n → length l ≡ n
+length-mapped X Y f l n e = sym (length-map l f) ∙ e
+
+-- a variable that was free is held at an end of its segment
+pub stopped-placed : (n : ℕ) (segments : List Segments) (indices : List ℕ) (xFree direction lower upper : List Float) (step : Float) (k : ℕ)
+    (side : Side) (released : Released) (board : Board) → n ≤ length (board .state) → indices ≡ freeIndices n (board .state) → k < length indices →
+    AllPlaced n segments (board .state) →
+    AllPlaced n segments (stopped n segments indices xFree direction lower upper step k side released board .state)
+unfolding stopped
+stopped-placed n segments indices xFree direction lower upper step k side released board few e h placed =
+    let below = listed-below n (board .state) e k h in
+    block-placed n segments (index indices k) side step released (index (freeSegments n (board .state)) k)
+    (record { x = moveAlong indices xFree direction step lower upper (board .x); state = board .state; refused = board .refused })
+    below (omega arith) (listed-segment n (board .state) e k h) placed
+
+-- the whole step leaves the active set
+pub settled-placed : (n : ℕ) (segments : List Segments) (indices : List ℕ) (target lower upper : List Float) (tolerance : Float) (board : Board) →
+    AllPlaced n segments (board .state) → AllPlaced n segments (settled indices target lower upper tolerance board .state)
+unfolding settled
+settled-placed n segments indices target lower upper tolerance board placed = go (settle indices target lower upper tolerance (board .x))
+  where
+    go : (o : Out (List Float)) → AllPlaced n segments (cleared board o .state)
+    go (out moved x) = unfold cleared in placed
+
+-- the variable that enters is one of the n, and goes into one of its segments
+pub release-enters : (originals n m : ℕ) (q c e : List Float) (segments : List Segments) (fixed : List Bool) (qAmax linear : Float)
+    (multipliers : List Float) (board : Board) → AllPlaced n segments (board .state) → (i j : ℕ) →
+    Enter i j ≡ release originals n m q c e segments fixed qAmax linear multipliers board → (i < n) × (j < last (segmentsAt segments i))
+unfolding release
+release-enters originals n m q c e segments fixed qAmax linear multipliers board placed i j equal =
+    let x = take n (board .x) in
+    let pushback = mulVec n m e multipliers in
+    enters n segments (board .state) placed fixed (take n (board .refused)) (gradient n q c x) pushback
+    (scale qAmax linear originals x n pushback) i j equal
+
+pub entered-placed : (n : ℕ) (segments : List Segments) (i segment : ℕ) (board : Board) → i < length (board .state) →
+    segment < last (segmentsAt segments i) → AllPlaced n segments (board .state) → AllPlaced n segments (entered i segment board .state)
+unfolding entered
+entered-placed n segments i segment board l h placed = set-placed n segments (board .state) i (Free segment) l h placed
+
+-- ---- what every pass keeps
+pub board-kept : (originals n : ℕ) (segments : List Segments) (i : Iterate) (board : Board) (released : Released) → AllPlaced n segments (board .state) →
+    Kept originals n segments i → Kept originals n segments (withBoard i board released)
+unfolding withBoard
+board-kept originals n segments i board released placed kept = record { placed = placed; factor = kept .factor }
+
+pub everything-kept : (originals n : ℕ) (segments : List Segments) (fixed : List Bool) (i : Iterate) → AllCut n segments →
+    Kept originals n segments i → Kept originals n segments (freeEverything n segments fixed i)
+unfolding freeEverything
+everything-kept originals n segments fixed i cut kept =
+    record { placed = free-all-placed n segments fixed (i .board .state) cut (kept .placed); factor = kept .factor }

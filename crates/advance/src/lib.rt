@@ -1,0 +1,349 @@
+// qp.rs, the end of a pass of `solve_piecewise_in_units`: the step is made, and blocked, or a held variable is released; and what a pass does where
+// no original is free.
+use blocking::Board;
+use blocking::Released;
+use blocking::Side;
+use iterate::Ending;
+use iterate::Iterate;
+use iterate::Passed;
+use releasing::Outcome;
+use segments::Segments;
+use segments::Spot;
+use segments::State;
+ghost use mathlib.Core.Path.{_≡_};
+ghost use Prim.Native.Nat.{_≤_, _<_, _*_};
+ghost use lib.ListN.{length, take};
+ghost use Rattle.sizes.specs.Sizes as Sizes;
+ghost use Rattle.vector.specs.Vector.{Below};
+ghost use Rattle.segments.specs.Segments.{AllCut, AllPlaced};
+ghost use Rattle.free_list.specs.FreeList.{freeIndices};
+ghost use Rattle.blocking.specs.Blocking.{Entries};
+ghost use Rattle.iterate.specs.Iterate.{passedOf, Kept};
+ghost use Rattle.advance.specs.Advance as Advance;
+ghost use Rattle.advance.specs.Advance.{Shape};
+
+fn all_true(a: &[bool], n: usize) -> bool
+    requires { ⌜ n ≤ length (now a) ⌝ }
+    ensures { λ r. ⌜ r ≡ Advance.allTrue n (now (a .entry)) ⌝ }
+{
+    for i in 0..n {
+        if a[i] {} else {
+            return false;
+        }
+    }
+    true
+}
+
+// freed_at.as_ref() == Some(&x)
+fn freed_here(freed: bool, freed_at: &[f64], x: &[f64], n: usize) -> bool
+    requires { ⌜ (n ≤ length (now «freed_at»)) × (n ≤ length (now x)) ⌝ }
+    ensures { λ r. ⌜ r ≡ Advance.freedHere n freed (now («freed_at» .entry)) (now (x .entry)) ⌝ }
+{
+    if freed {
+        return stepping::same_point(freed_at, x, n);
+    }
+    false
+}
+
+// Every variable that isn't fixed is freed, here.
+fn free_everything(
+    iterate: Iterate,
+    segments: [Segments; sizes::VARIABLES],
+    fixed: &[bool],
+    n: usize,
+) -> Iterate
+    requires { ⌜ (n ≤ Sizes.variables)
+        × (n ≤ length (now fixed))
+        × AllCut n segments
+        × AllPlaced n segments (iterate .board .state) ⌝ }
+    ensures { λ r. ⌜ r ≡ Advance.freeEverything n segments (now (fixed .entry)) iterate ⌝ }
+{
+    let mut board = iterate.board;
+    let x = board.x;
+    let state = board.state;
+    let freed = segments::free_all(state, segments, fixed, n);
+    board.state = freed;
+    let mut next = iterate;
+    next.board = board;
+    next.freed = true;
+    next.freed_at = x;
+    next
+}
+
+// With no free original every variable is freed at once, unless that was done before at the same point.
+pub fn without_free(
+    iterate: Iterate,
+    segments: [Segments; sizes::VARIABLES],
+    fixed: &[bool],
+    n: usize,
+    originals: usize,
+) -> Passed
+    requires { ⌜ (originals ≤ n)
+        × (n ≤ Sizes.variables)
+        × (n ≤ length (now fixed))
+        × AllCut n segments
+        × Kept originals n segments iterate ⌝ }
+    ensures { λ r. ⌜ Advance.WithoutFree originals n segments (now (fixed .entry)) iterate r ⌝ }
+    ensures { λ r. ⌜ Kept originals n segments (r .iterate) ⌝ }
+{
+    if all_true(fixed, originals) {
+        return iterate::ended(Ending::Optimal, iterate);
+    }
+    let board = iterate.board;
+    let x = board.x;
+    let freed_at = iterate.freed_at;
+    if freed_here(iterate.freed, &freed_at[..n], &x[..n], n) {
+        return iterate::ended(Ending::NotConverged, iterate);
+    }
+    iterate::ended(Ending::More, free_everything(iterate, segments, fixed, n))
+}
+
+// Another point with its active set.
+fn with_board(iterate: Iterate, board: Board, released: Released) -> Iterate
+    ensures { λ r. ⌜ r ≡ Advance.withBoard iterate board released ⌝ }
+{
+    let freed_at = iterate.freed_at;
+    let factoring = iterate.factoring;
+    Iterate {
+        board: board,
+        released: released,
+        freed: iterate.freed,
+        freed_at: freed_at,
+        factoring: factoring,
+    }
+}
+
+// Toward a target or along a ray, to where entry k of the free variables reaches an end of its segment, which is held there.
+fn stopped(
+    board: Board,
+    segments: [Segments; sizes::VARIABLES],
+    n: usize,
+    indices: &[usize],
+    x_free: &[f64],
+    direction: &[f64],
+    lower: &[f64],
+    upper: &[f64],
+    step: f64,
+    k: usize,
+    side: Side,
+    released: Released,
+) -> Board
+    requires { ⌜ (n ≤ Sizes.variables)
+        × AllCut n segments
+        × AllPlaced n segments (board .state)
+        × (now indices ≡ freeIndices n (board .state))
+        × Entries (length (now indices)) (now «x_free») (now direction) (now lower) (now upper)
+        × (k < length (now indices)) ⌝ }
+    ensures { λ r. ⌜ r
+        ≡ Advance.stopped n segments (now (indices .entry)) (now («x_free» .entry)) (now (direction .entry)) (now (lower .entry)) (now (upper .entry))
+        step k side released board ⌝ }
+    ensures { λ r. ⌜ AllPlaced n segments (r .state) ⌝ }
+{
+    let mut x = board.x;
+    stepping::move_along(&mut x, indices, x_free, direction, step, lower, upper);
+    let mut moved = board;
+    moved.x = x;
+    let i = indices[k];
+    blocking::block(moved, i, side, segments[i], step, released)
+}
+
+// The same, with what the pass before released forgotten.
+pub fn blocked(
+    iterate: Iterate,
+    segments: [Segments; sizes::VARIABLES],
+    n: usize,
+    indices: &[usize],
+    x_free: &[f64],
+    direction: &[f64],
+    lower: &[f64],
+    upper: &[f64],
+    step: f64,
+    k: usize,
+    side: Side,
+) -> Passed
+    requires { ⌜ (n ≤ Sizes.variables)
+        × AllCut n segments
+        × AllPlaced n segments (iterate .board .state)
+        × (now indices ≡ freeIndices n (iterate .board .state))
+        × Entries (length (now indices)) (now «x_free») (now direction) (now lower) (now upper)
+        × (k < length (now indices)) ⌝ }
+    ensures { λ r. ⌜ Advance.Gives n r
+        (Advance.blocked iterate
+        (Advance.stopped n segments (now (indices .entry)) (now («x_free» .entry)) (now (direction .entry)) (now (lower .entry)) (now (upper .entry))
+        step k side (iterate .released) (iterate .board))) ⌝ }
+    ensures { λ r. ⌜ Advance.Keeps n segments iterate r ⌝ }
+{
+    let board = iterate.board;
+    let released = iterate.released;
+    let next = stopped(
+        board,
+        segments,
+        n,
+        indices,
+        x_free,
+        direction,
+        lower,
+        upper,
+        step,
+        k,
+        side,
+        released,
+    );
+    iterate::ended(Ending::More, with_board(iterate, next, Released::NoOne))
+}
+
+// The whole step; the refusals are cleared where x moved.
+pub fn settled(
+    board: Board,
+    indices: &[usize],
+    target: &[f64],
+    lower: &[f64],
+    upper: &[f64],
+    tolerance: f64,
+) -> Board
+    requires { ⌜ Below (length (now indices)) (now indices) Sizes.variables
+        × (length (now indices) ≤ length (now target))
+        × (length (now indices) ≤ length (now lower))
+        × (length (now indices) ≤ length (now upper)) ⌝ }
+    ensures { λ r. ⌜ r
+        ≡ Advance.settled (now (indices .entry)) (now (target .entry)) (now (lower .entry)) (now (upper .entry)) tolerance board ⌝ }
+{
+    let mut x = board.x;
+    let moved = stepping::settle(&mut x, indices, target, lower, upper, tolerance);
+    let mut next = board;
+    next.x = x;
+    if moved {
+        next.refused = [false; sizes::VARIABLES];
+        return next;
+    }
+    next
+}
+
+// gradient = q * &x - c
+fn gradient(q: &[f64], c: &[f64], n: usize, x: &[f64]) -> [f64; sizes::VARIABLES]
+    requires { ⌜ (n ≤ Sizes.variables) × (n * n ≤ length (now q)) × (n ≤ length (now c)) × (n ≤ length (now x)) ⌝ }
+    ensures { λ r. ⌜ take n r ≡ Advance.gradient n (now (q .entry)) (now (c .entry)) (now (x .entry)) ⌝ }
+{
+    let qx = dense::mul_vec(q, n, n, x);
+    dense::sub(&qx[..n], c, n)
+}
+
+// The size of the terms that the multipliers are differences of. `q_amax` is q.amax(), `linear` is c.amax().max(slope_amax).
+fn scale(q_amax: f64, linear: f64, x: &[f64], originals: usize, pushback: &[f64], n: usize) -> f64
+    requires { ⌜ (originals ≤ length (now x)) × (n ≤ length (now pushback)) ⌝ }
+    ensures { λ r. ⌜ r ≡ Advance.scale «q_amax» linear originals (now (x .entry)) n (now (pushback .entry)) ⌝ }
+{
+    arith::max(
+        q_amax * vector::amax(x, originals) + linear,
+        vector::amax(pushback, n),
+    )
+}
+
+// Which held variable leaves the active set at x, if any.
+fn release(
+    board: Board,
+    segments: [Segments; sizes::VARIABLES],
+    fixed: &[bool],
+    q: &[f64],
+    c: &[f64],
+    e: &[f64],
+    n: usize,
+    m: usize,
+    originals: usize,
+    q_amax: f64,
+    linear: f64,
+    multipliers: &[f64],
+) -> Outcome
+    requires { ⌜ Shape originals n m (now q) (now c) (now e)
+        × AllCut n segments
+        × AllPlaced n segments (board .state)
+        × (n ≤ length (now fixed))
+        × (m ≤ length (now multipliers)) ⌝ }
+    ensures { λ r. ⌜ r
+        ≡ Advance.release originals n m (now (q .entry)) (now (c .entry)) (now (e .entry)) segments (now (fixed .entry)) «q_amax» linear
+        (now (multipliers .entry)) board ⌝ }
+{
+    let x = board.x;
+    let state = board.state;
+    let refused = board.refused;
+    let gradient = gradient(q, c, n, &x[..n]);
+    let pushback = dense::mul_vec(e, n, m, multipliers);
+    let scale = scale(q_amax, linear, &x[..n], originals, &pushback[..n], n);
+    releasing::release(
+        segments,
+        state,
+        fixed,
+        &refused[..n],
+        &gradient[..n],
+        &pushback[..n],
+        n,
+        scale,
+    )
+}
+
+fn entered(board: Board, i: usize, segment: usize) -> Board
+    requires { ⌜ i < Sizes.variables ⌝ }
+    ensures { λ r. ⌜ r ≡ Advance.entered i segment board ⌝ }
+{
+    let mut next = board;
+    next.state[i] = Spot {
+        state: State::Free(segment),
+    };
+    next
+}
+
+// After the whole step: a variable leaves the active set, or the point is the answer, or no progress can be made.
+pub fn decided(
+    iterate: Iterate,
+    board: Board,
+    segments: [Segments; sizes::VARIABLES],
+    fixed: &[bool],
+    q: &[f64],
+    c: &[f64],
+    e: &[f64],
+    n: usize,
+    m: usize,
+    originals: usize,
+    q_amax: f64,
+    linear: f64,
+    multipliers: [f64; sizes::COLUMNS],
+) -> Passed
+    requires { ⌜ Shape originals n m (now q) (now c) (now e)
+        × AllCut n segments
+        × AllPlaced n segments (board .state)
+        × Kept originals n segments iterate
+        × (n ≤ length (now fixed)) ⌝ }
+    ensures { λ r. ⌜ passedOf n m r
+        ≡ Advance.decided n iterate board (take m multipliers)
+        (Advance.release originals n m (now (q .entry)) (now (c .entry)) (now (e .entry)) segments (now (fixed .entry)) «q_amax» linear
+        (take m multipliers) board) ⌝ }
+    ensures { λ r. ⌜ Kept originals n segments (r .iterate) ⌝ }
+{
+    let released = iterate.released;
+    let outcome = release(
+        board,
+        segments,
+        fixed,
+        q,
+        c,
+        e,
+        n,
+        m,
+        originals,
+        q_amax,
+        linear,
+        &multipliers[..m],
+    );
+    match outcome {
+        Outcome::Enter(i, segment) => {
+            let next = entered(board, i, segment);
+            iterate::ended(Ending::More, with_board(iterate, next, Released::One(i)))
+        }
+        Outcome::Answer => Passed {
+            ending: Ending::Optimal,
+            iterate: with_board(iterate, board, released),
+            multipliers: multipliers,
+        },
+        Outcome::NotConverged => iterate::ended(Ending::NotConverged, iterate),
+    }
+}

@@ -1,0 +1,19 @@
+use Rattle.folds.specs.Kit.{sym, arith, length, needs}
+use lib.Seq.{length-take-le}
+use Rattle.free_problem.specs.FreeProblem.{residuals}
+use Rattle.free_problem.proofs.residuals.Statement.{statement}
+use Rattle.free_problem.proofs.residuals.Tie as tie
+
+slice-aggregate-sub : tie.Need-slice-aggregate-sub
+slice-aggregate-sub c = sym (length-take-le _ _ (omega arith))
+
+pub residuals-spec : {M : Type 1} → statement M
+unfolding residuals
+residuals-spec =
+    tie.close
+    (tie.spec
+    (λ c κs. search needs)  -- tr-mul-vec-requires
+    (λ c. search needs)  -- array-share-prefix-ex
+    slice-aggregate-sub
+    (λ c κs. (omega arith, omega arith, omega (arith, slice-aggregate-sub c)))  -- sub-requires
+    (λ c. rw (c .sub .ensures, c .before .before .tr-mul-vec .ensures)))  -- returns

@@ -1,0 +1,81 @@
+-- qp.rs, a pass of `solve_piecewise_in_units`: the problem in the free variables. Q is n by n, E is n by m; `solved` are the free variables below
+-- `originals`, `slacks` the free ones from there on.
+use mathlib.Core.Path.{_≡_}
+use Prim.Native.Nat.{ℕ, _*_}
+use mathlib.Core.List.{List}
+use lib.Ieee.{Float}
+use lib.ListN.{length, take}
+use Rattle.vector.specs.Vector.{sub, select}
+use Rattle.matrix.specs.Matrix.{mulVec, trMulVec, selectRows, selectColumns}
+use Rattle.slack_rows.specs.SlackRows.{keptColumns, stepNoise}
+use Rattle.iterate.specs.Problem.{Problem, problem, firstSlackColumn}
+use Rattle.free_problem.specs.declared.Free.{Free}
+
+-- `q.select_rows(solved).select_columns(solved)`, `e.select_rows(solved).select_columns(&kept)`; a is n by m
+unfoldable pub block : (n m : ℕ) (a : List Float) (rows columns : List ℕ) → List Float
+block n m a rows columns = let k = length rows in selectColumns k (selectRows n m a k rows) (length columns) columns
+
+-- `c.select_rows(solved) - slope`
+unfoldable pub linear : (c : List Float) (solved : List ℕ) (slope : List Float) → List Float
+linear c solved slope = let k = length solved in sub k (select k c solved) slope
+
+-- `&c_free - &q_rows * &x`, with k rows of n entries
+unfoldable pub gradient : (k n : ℕ) (qRows cFree x : List Float) → List Float
+gradient k n qRows cFree x = sub k cFree (mulVec k n qRows x)
+
+-- `b - e.transpose() * &x`
+unfoldable pub residuals : (n m : ℕ) (e b x : List Float) → List Float
+residuals n m e b x = sub m b (trMulVec n m e x)
+
+-- ---- the whole
+pub record Gathered : Type 0 where
+  pub c : List Float
+  pub gradient : List Float
+  pub residuals : List Float
+  pub kept : List ℕ
+  pub residual : List Float
+  pub noise : Float
+  pub «q_free» : List Float
+  pub «e_free» : List Float
+
+-- what counts of what the code leaves, with k variables solved and m columns
+unfoldable pub gatheredOf : (k m : ℕ) → Free → (qFree eFree : List Float) → Gathered
+gatheredOf k m r qFree eFree = record {
+  c = take k (r .c);
+  gradient = take k (r .gradient);
+  residuals = take m (r .residuals);
+  kept = take (r .columns) (r .kept);
+  residual = take (r .columns) (r .residual);
+  noise = r .noise;
+  «q_free» = take (k * k) qFree;
+  «e_free» = take (k * r .columns) eFree;
+}
+
+-- from `let kept = kept_columns(..)` to `let noise = step_noise(&q_rows, &variables, &c_free)`
+unfoldable pub gather : Problem → (x : List Float) (solved slacks : List ℕ) (slope : List Float) → Gathered
+gather (problem originals n m q c e b) x solved slacks slope =
+    let k = length solved in
+    let columns = keptColumns e n m solved slacks originals (firstSlackColumn originals n m) in
+    let qRows = selectRows n n q k solved in
+    let cFree = linear c solved slope in
+    let left = residuals n m e b x in record {
+      c = cFree;
+      gradient = gradient k n qRows cFree x;
+      residuals = left;
+      kept = columns;
+      residual = select (length columns) left columns;
+      noise = stepNoise qRows k n x originals cFree;
+      «q_free» = block n n q solved solved;
+      «e_free» = block n m e solved columns;
+    }
+
+-- the vectors, given Q's rows and the columns kept
+pub record Vectors (n m : ℕ) (qRows c e b : List Float) (originals : ℕ) (x : List Float) (solved : List ℕ) (slope : List Float)
+    (kept : List ℕ) (columns : ℕ) (r : Free) : Type 0 where
+  pub linear-is : take (length solved) (r .c) ≡ linear c solved slope
+  pub gradient-is : take (length solved) (r .gradient) ≡ gradient (length solved) n qRows (linear c solved slope) x
+  pub residuals-are : take m (r .residuals) ≡ residuals n m e b x
+  pub kept-are : r .kept ≡ kept
+  pub columns-are : r .columns ≡ columns
+  pub residual-is : take columns (r .residual) ≡ select columns (residuals n m e b x) (take columns kept)
+  pub noise-is : r .noise ≡ stepNoise qRows (length solved) n x originals (linear c solved slope)

@@ -1,0 +1,2 @@
+pub mod FreeProblem
+pub mod Laws

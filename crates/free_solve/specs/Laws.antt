@@ -1,0 +1,112 @@
+-- Laws of the definitions: what the calls of a solve give, put together, what is kept, and what a result holds.
+use mathlib.Core.Path.{_≡_, sym, ap, _∙_}
+use mathlib.Core.Bool.{true, false}
+use mathlib.Core.List.{List}
+use Prim.Native.Nat.{ℕ, _*_, _≤_}
+use native.Mathlib.Omega.{arith}
+use lib.ListN.{length, take}
+use lib.Seq.{length-take-le}
+use lib.Ieee.{Float}
+use Rattle.folds.specs.Fold.{pick}
+use Rattle.sizes.specs.Sizes as Sizes
+use Rattle.factor.specs.Factor.{Rising}
+use Rattle.factoring.specs.declared.Factoring.{Factoring}
+use Rattle.factoring.specs.Kept.{Good, reset, update}
+use Rattle.factoring.specs.Laws.{good-reset, good-update, update-regular}
+use Rattle.scaled.specs.System.{System}
+use Rattle.factored.specs.declared.Found.{Found}
+use Rattle.factored.specs.Factored.{Answer, some, none, foundOf}
+use Rattle.factored.specs.Laws.{found-is}
+use Rattle.solution.specs.declared.Solution as Noisy
+use Rattle.solution.specs.declared.Verdict.{Verdict}
+use Rattle.solution.specs.declared.Verdict.the-variants.{Solved, NoOptimum, NonFiniteCovariance, SingularCovariance}
+use Rattle.solution.specs.Solution.{optimum, noOptimum, nonFinite, singular, answer}
+use Rattle.solution.specs.Solution as Kkt
+use Rattle.solution.specs.Laws.{answer-solved, answer-noOptimum, answer-nonFinite, answer-singular, solution-answer}
+use Rattle.noisy_kkt.specs.NoisyKkt.{solveNoisyKkt}
+use Rattle.free_solve.specs.declared.Solved as Result
+use Rattle.free_solve.specs.FreeSolve.{Solution, solutionOf, fromFactor, otherwise, matched, afterUpdate, solveFree}
+use Rattle.free_solve.specs.Workspace.{Regular}
+
+-- ---- what a result holds
+optimum-of : {y l x multipliers : List Float} (verdict : Verdict) → answer verdict y l ≡ optimum x multipliers → (y ≡ x) × (l ≡ multipliers)
+optimum-of {y} {l} Solved e = (cc (answer-solved y l), cc (answer-solved y l))
+optimum-of {y} {l} NoOptimum e = absurd (let z : _≡_ {A = ℕ} 0 1 = cc (answer-noOptimum y l) in omega arith)
+optimum-of {y} {l} NonFiniteCovariance e = absurd (let z : _≡_ {A = ℕ} 0 1 = cc (answer-nonFinite y l) in omega arith)
+optimum-of {y} {l} SingularCovariance e = absurd (let z : _≡_ {A = ℕ} 0 1 = cc (answer-singular y l) in omega arith)
+
+module _ (k m : ℕ) (r : Result.Solved) (s : Solution) (e : solutionOf k m r ≡ s) where
+  pub left-answer : s .answer ≡ answer (r .verdict) (take k (r .x)) (take m (r .multipliers))
+  unfolding solutionOf
+  left-answer = ap (λ (z : Solution). z .answer) (sym e)
+
+  pub left-factoring : s .factoring ≡ r .factoring
+  unfolding solutionOf
+  left-factoring = ap (λ (z : Solution). z .factoring) (sym e)
+
+  pub good-left : (o : ℕ) → Good o (s .factoring) → Good o (r .factoring)
+  good-left o g = rw left-factoring at g
+
+  -- by its verdict
+  pub left-solved : r .verdict ≡ Solved → s .answer ≡ optimum (take k (r .x)) (take m (r .multipliers))
+  left-solved t = left-answer ∙ rw (t, answer-solved)
+
+  pub left-noOptimum : r .verdict ≡ NoOptimum → s .answer ≡ noOptimum
+  left-noOptimum t = left-answer ∙ rw (t, answer-noOptimum)
+
+  pub left-nonFinite : r .verdict ≡ NonFiniteCovariance → s .answer ≡ nonFinite
+  left-nonFinite t = left-answer ∙ rw (t, answer-nonFinite)
+
+  pub left-singular : r .verdict ≡ SingularCovariance → s .answer ≡ singular
+  left-singular t = left-answer ∙ rw (t, answer-singular)
+
+  -- an optimum's x has k entries, and its multipliers m
+  pub optimum-long : {x multipliers : List Float} → s .answer ≡ optimum x multipliers → k ≤ length (r .x) → m ≤ length (r .multipliers) →
+      (length x ≡ k) × (length multipliers ≡ m)
+  optimum-long f g h =
+      let o = optimum-of (r .verdict) (sym left-answer ∙ f) in
+      (sym (ap length (o .0)) ∙ length-take-le k (r .x) g, sym (ap length (o .1)) ∙ length-take-le m (r .multipliers) h)
+
+-- ---- what the calls give
+module _ (f : Factoring) (s : System) (noise : Float) (k m : ℕ) where
+  pub otherwise-from : {d : Factoring} (t : Noisy.Solution) → Kkt.solutionOf k m t ≡ solveNoisyKkt s noise → d ≡ reset f →
+      solutionOf k m (record { verdict = t .verdict; x = t .x; multipliers = t .multipliers; factoring = d }) ≡ otherwise f s noise
+  unfolding solutionOf otherwise
+  otherwise-from t a g = rw (← solution-answer k m t, a, g)
+
+  module _ (g : Found) (e : foundOf k m g ≡ fromFactor (f .factored) (f .factor) s noise) where
+    -- by whether the factored solve found an optimum
+    pub after-found : g .found ≡ true →
+        solutionOf k m (record { verdict = Solved; x = g .x; multipliers = g .multipliers; factoring = f }) ≡ afterUpdate f s noise
+    unfolding solutionOf afterUpdate matched pick
+    after-found t = rw (← e, found-is k m g, t, answer-solved (take k (g .x)) (take m (g .multipliers)))
+
+    pub after-missed : {r : Solution} → g .found ≡ false → r ≡ otherwise f s noise → r ≡ afterUpdate f s noise
+    unfolding afterUpdate matched pick
+    after-missed t h = h ∙ rw (← e, found-is k m g, t)
+
+pub free-from : {u : Factoring} {r : Solution} (q : List Float) (n : ℕ) (solved : List ℕ) (s : System) (noise : Float) (f : Factoring) →
+    u ≡ update q n solved f → r ≡ afterUpdate u s noise → r ≡ solveFree q n solved s noise f
+unfolding solveFree
+free-from q n solved s noise f e h = h ∙ rw e
+
+-- ---- every solve keeps `Good`
+module _ (o : ℕ) where
+  good-matched : (f : Factoring) (s : System) (noise : Float) (a : Answer) → Good o f → Good o (matched f s noise a .factoring)
+  unfolding matched otherwise
+  good-matched f s noise (some x multipliers) g = g
+  good-matched f s noise none g = good-reset o f g
+
+  good-after : (f : Factoring) (s : System) (noise : Float) → Good o f → Good o (afterUpdate f s noise .factoring)
+  unfolding afterUpdate
+  good-after f s noise g = good-matched f s noise (fromFactor (f .factored) (f .factor) s noise) g
+
+  module _ (few : o ≤ Sizes.originals) (q : List Float) (n : ℕ) (solved : List ℕ) (f : Factoring) (r : Rising o solved) (g : Good o f) where
+    pub good-solve : (s : System) (noise : Float) → Good o (solveFree q n solved s noise f .factoring)
+    unfolding solveFree
+    good-solve s noise = good-after (update q n solved f) s noise (good-update o few q n solved f r g)
+
+    -- a factor that `update` gives may be divided by
+    pub regular-from : {u : Factoring} → u ≡ update q n solved f → length solved * length solved ≤ length (u .factor) →
+        Regular (length solved) (u .factored) (u .factor)
+    regular-from e h = record { holds = h; diagonal = λ t. rw e (update-regular o few q n solved f r g (rw e at t)) }

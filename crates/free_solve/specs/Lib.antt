@@ -1,0 +1,3 @@
+pub mod Workspace
+pub mod FreeSolve
+pub mod Laws

@@ -1,0 +1,67 @@
+-- qp.rs, what follows the solve of a pass of `solve_piecewise_in_units`: the step to the minimum on the free variables, or, where they have none,
+-- along a direction of zero curvature. The free variables are `solved` and, after them, `slacks`.
+use Prim.Native.Nat.{ℕ, _+_, _-_, _≤_}
+use mathlib.Core.Path.{_≡_}
+use mathlib.Core.Bool.{Bool}
+use mathlib.Core.List.{List}
+use lib.ListN.{length}
+use lib.Ieee.{Float, eq}
+use Rattle.folds.specs.Fold.{all, pick}
+use Rattle.folds.specs.Run.{Pass, done}
+use Rattle.sizes.specs.Sizes as Sizes
+use Rattle.arith.specs.Float.{f0, at}
+use Rattle.vector.specs.Vector.{filled}
+use Rattle.segments.specs.declared.Segments.{Segments}
+use Rattle.segments.specs.declared.Spot.{Spot}
+use Rattle.free_list.specs.FreeList.{freeIndices}
+use Rattle.slack_rows.specs.SlackRows.{Rows, Solved, allMultipliers, withSlackSteps}
+use Rattle.ray.specs.Ray.{Descent, descent, noDescent, descentRay}
+use Rattle.iterate.specs.Problem.{Problem, problem, firstSlackColumn}
+use Rattle.iterate.specs.Iterate.{Result, singular, passedOf}
+use Rattle.iterate.specs.declared.Iterate.{Iterate}
+use Rattle.iterate.specs.declared.Passed.{Passed}
+use Rattle.full_step.specs.FullStep.{toward, along}
+
+-- the free variables, split into those solved for and the slacks, each with its row among E's columns
+pub record Split (originals n m : ℕ) (e : List Float) (state : List Spot) (indices solved slacks : List ℕ) : Type 0 where
+  pub within : originals ≤ n
+  pub slacks-fit : n - originals ≤ m
+  pub columns : m ≤ Sizes.columns
+  pub free : indices ≡ freeIndices n state
+  pub counted : length solved + length slacks ≡ length indices
+  pub solved-are : Solved n m e solved
+  pub slacks-are : Rows n m originals (firstSlackColumn originals n m) slacks
+
+-- ---- the minimum
+-- `solution.map(|(delta, multipliers)| { ..; (slack_steps(delta, Some(&residuals)), all) })`, and the step to `&x_free + delta`
+unfoldable pub afterMinimum : Problem → (segments : List Segments) (fixed : List Bool) (qAmax linear : Float) (solved slacks kept : List ℕ)
+    (residuals delta multipliers : List Float) → Iterate → Pass Iterate Result
+afterMinimum (problem originals n m q c e b) segments fixed qAmax linear solved slacks kept residuals delta multipliers i =
+    toward (problem originals n m q c e b) segments fixed qAmax linear (length solved)
+    (withSlackSteps e n solved slacks delta residuals originals (firstSlackColumn originals n m)) (allMultipliers m kept multipliers) i
+
+-- of what the code leaves, whatever the right side
+abbrev pub AfterMinimum : (originals n m : ℕ) (q c e : List Float) (segments : List Segments) (fixed : List Bool) (qAmax linear : Float)
+    (solved slacks kept : List ℕ) (residuals delta multipliers : List Float) → Iterate → (r : Passed) → Type 0
+AfterMinimum originals n m q c e segments fixed qAmax linear solved slacks kept residuals delta multipliers i r =
+    (b : List Float) →
+    passedOf n m r ≡ afterMinimum (problem originals n m q c e b) segments fixed qAmax linear solved slacks kept residuals delta multipliers i
+
+-- ---- no minimum: `let Some((delta, multipliers)) = solution else { .. }`
+-- `c_free.iter().all(|&v| v == 0.0)`
+unfoldable pub allZero : (n : ℕ) (a : List Float) → Bool
+allZero n a = all n (λ i. eq (at a i) f0)
+
+-- `let direction = slack_steps(descent_ray(&q_free, &gradient_free, &e_free)?, None)`, and the step along it; None stands as residuals of 0
+unfoldable pub onRay : (originals n m : ℕ) (e : List Float) (segments : List Segments) (solved slacks : List ℕ) → Iterate → Descent →
+    Pass Iterate Result
+onRay originals n m e segments solved slacks i (descent direction) =
+    along n segments (withSlackSteps e n solved slacks direction (filled m f0) originals (firstSlackColumn originals n m)) i
+onRay originals n m e segments solved slacks i noDescent = done singular
+
+-- `if c_free.iter().all(..) { return Err(CutupError::SingularCovariance); }`
+unfoldable pub descend : (originals n m : ℕ) (e : List Float) (segments : List Segments) (solved slacks : List ℕ)
+    (cFree gradient qFree eFree : List Float) (columns : ℕ) → Iterate → Pass Iterate Result
+descend originals n m e segments solved slacks cFree gradient qFree eFree columns i =
+    pick (allZero (length solved) cFree) (done singular)
+    (onRay originals n m e segments solved slacks i (descentRay (length solved) columns qFree gradient eFree))

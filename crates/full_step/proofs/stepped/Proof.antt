@@ -1,0 +1,130 @@
+use Rattle.folds.specs.Kit.{_≡_, _≤_, sym, _∙_, arith, length, needs}
+use mathlib.Core.Path.{subst}
+use lib.Seq.{length-take-le}
+use Rattle.sizes.specs.Sizes as Sizes
+use Rattle.segments.specs.Segments.{AllPlaced}
+use Rattle.free_list.specs.Laws.{listed-below}
+use Rattle.blocking.specs.Laws.{blocking-below}
+use Rattle.blocking.specs.declared.Board.{Board}
+use Rattle.advance.specs.Laws.{settled-placed}
+use Rattle.full_step.specs.FullStep.{atBlocking, stepped}
+use Rattle.full_step.specs.Laws.{listed-few}
+use Rattle.full_step.proofs.stepped.Statement.{statement}
+use Rattle.full_step.proofs.stepped.Tie as tie
+
+abbrev start : tie.After-blocking → tie.Start
+start c = c .before .before .before .before .before .before .before .before .before .before .before .before .before .before
+
+x-holds : (c : tie.Start) → c .args .n ≤ length (c .args .iterate .board .x)
+x-holds c = let e : length (c .args .iterate .board .x) ≡ Sizes.variables = search needs in omega arith
+
+few : (c : tie.Start) → length (c .args .indices .now) ≤ Sizes.variables
+few c = omega (arith, listed-few (c .args .n) (c .args .iterate .board .state) (c .pre .4), c .pre .0 .variables)
+
+slice-aggregate-step-tolerance : tie.Need-slice-aggregate-step-tolerance
+slice-aggregate-step-tolerance c =
+    sym (length-take-le _ _ (x-holds (c .before .before .before .before .before .before .before .before .before .before .before .before)))
+
+step-tolerance-requires : tie.Need-step-tolerance-requires
+step-tolerance-requires c κs =
+    let p = c .before .before .before .before .before .before .before .before .before .before .before .before .pre in
+    (p .6, omega (arith, slice-aggregate-step-tolerance c, p .0 .within))
+
+blocking-requires : tie.Need-blocking-requires
+blocking-requires c κs = c .before .before .before .before .before .before .before .before .before .before .before .before .before .pre .5
+
+settled-requires : tie.Need-settled-requires
+settled-requires c κs =
+    let s = start (c .before .before) in
+    let p = s .pre in (
+      λ i h. omega (arith, listed-below (s .args .n) (s .args .iterate .board .state) (p .4) i h, p .0 .variables),
+      p .5 .d-holds,
+      p .5 .lower-holds,
+      p .5 .upper-holds,
+    )
+
+decided-requires : tie.Need-decided-requires
+decided-requires c κs =
+    let s = start (c .before .before .before) in
+    let a = s .args in
+    let p = s .pre in (
+      p .0,
+      p .1,
+      subst (λ (b : Board). AllPlaced (a .n) (a .segments) (b .state)) (sym (c .settled .ensures))
+          (settled-placed (a .n) (a .segments) _ _ _ _ _ (a .iterate .board) (p .2 .placed)),
+      p .2,
+      p .3,
+    )
+
+returns : tie.Need-returns
+unfolding stepped atBlocking
+returns c =
+    let t = c .before .before in
+    let b = t .before .before in (
+      rw (← b .before .step-tolerance .ensures, ← b .blocking .ensures, t .enum-told .given .1, ← c .before .settled .ensures)
+          (c .decided .ensures .0),
+      c .decided .ensures .1,
+    )
+
+sub-requires : tie.Need-sub-requires
+sub-requires c κs =
+    let s = start (c .before .before .before) in
+    let h = s .pre .5 in (few s, omega (arith, h .x-holds, h .d-holds), omega (arith, h .x-holds, h .d-holds))
+
+direction-holds : (c : tie.After-sub) → length (start (c .before .before .before .before) .args .indices .now) ≤ length (c .sub .result)
+direction-holds c = let e : length (c .sub .result) ≡ Sizes.variables = search needs in omega (arith, few (start (c .before .before .before .before)))
+
+slice-aggregate-blocked : tie.Need-slice-aggregate-blocked
+slice-aggregate-blocked c = sym (length-take-le _ _ (direction-holds (c .before)))
+
+blocked-requires : tie.Need-blocked-requires
+blocked-requires c κs =
+    let h = c .before .before .before in
+    let b = h .before .before in
+    let s = start b in
+    let a = s .args in
+    let p = s .pre in
+    let v = h .hit .given in (
+      p .0 .variables,
+      p .1,
+      p .2 .placed,
+      p .4,
+      record {
+        x-holds = p .5 .x-holds;
+        d-holds = omega (arith, slice-aggregate-blocked c);
+        lower-holds = p .5 .lower-holds;
+        upper-holds = p .5 .upper-holds;
+      },
+      blocking-below (length (a .indices .now)) (a .x-free .now) (a .target .now) (a .lower .now) (a .upper .now) (v .0 .0) (v .0 .1 .0)
+          (v .0 .1 .1 .0) (b .before .step-tolerance .result) (sym (v .1) ∙ b .blocking .ensures),
+    )
+
+returns-2 : tie.Need-returns-2
+unfolding stepped atBlocking
+returns-2 c =
+    let h = c .before .before .before .before in
+    let b = h .before .before in
+    let s = start b in (
+      rw (← b .before .step-tolerance .ensures, ← b .blocking .ensures, h .hit .given .1, ← c .before .before .sub .ensures)
+          (c .blocked .ensures .0 (s .args .m)),
+      c .blocked .ensures .1 (s .args .originals) (s .pre .2),
+    )
+
+pub stepped-spec : {M : Type 1} → statement M
+stepped-spec =
+    tie.close
+    (tie.spec
+    (λ c. x-holds (c .before .before .before .before .before .before .before .before .before .before .before))  -- array-share-prefix-x
+    slice-aggregate-step-tolerance
+    step-tolerance-requires
+    blocking-requires
+    (λ c. search needs)  -- enum-known-hit
+    (λ c. search needs)  -- enum-told
+    settled-requires
+    decided-requires
+    returns
+    sub-requires
+    direction-holds  -- array-share-prefix-direction
+    slice-aggregate-blocked
+    blocked-requires
+    returns-2)

@@ -1,0 +1,85 @@
+-- qp.rs, the step of a pass of `solve_piecewise_in_units`: toward the minimum on the free variables, or along a direction of zero curvature, until
+-- a variable reaches an end of its segment.
+use Prim.Native.Nat.{ℕ, _≤_}
+use mathlib.Core.Path.{_≡_}
+use mathlib.Core.Bool.{Bool}
+use mathlib.Core.List.{List}
+use lib.ListN.{length, take}
+use lib.Ieee.{Float}
+use Rattle.folds.specs.Run.{Pass, done}
+use Rattle.vector.specs.Vector.{add, sub, select}
+use Rattle.segments.specs.declared.Segments.{Segments}
+use Rattle.free_list.specs.FreeList.{freeIndices, lowerEnds, upperEnds}
+use Rattle.blocking.specs.Blocking.{ratioTest, stepTolerance, blocking}
+use Rattle.blocking.specs.declared.Board.{Board}
+use Rattle.blocking.specs.declared.Hit.{Hit}
+use Rattle.blocking.specs.declared.Hit.the-variants.{Found, Nothing}
+use Rattle.iterate.specs.Problem.{Problem, problem}
+use Rattle.iterate.specs.Iterate.{Result, unbounded, passedOf}
+use Rattle.iterate.specs.declared.Iterate.{Iterate}
+use Rattle.iterate.specs.declared.Passed.{Passed}
+use Rattle.full_step.specs.declared.FreeVariables.{FreeVariables}
+use Rattle.advance.specs.Advance.{stopped, blocked, settled, release, decided}
+
+-- `let x_free = x.select_rows(&indices)`, and the ends of the segments, in what the code leaves
+pub record Gathered (k n : ℕ) (segments : List Segments) (indices : List ℕ) (board : Board) (r : FreeVariables) : Type 0 where
+  pub x-holds : k ≤ length (r .x)
+  pub lower-holds : k ≤ length (r .lower)
+  pub upper-holds : k ≤ length (r .upper)
+  pub x-taken : take k (r .x) ≡ select k (take n (board .x)) indices
+  pub lower-taken : take k (r .lower) ≡ lowerEnds k n segments (board .state)
+  pub upper-taken : take k (r .upper) ≡ upperEnds k n segments (board .state)
+
+-- ---- toward the target
+-- `if let Some((step, k, side)) = blocking { .. continue; }`, with the step along `target - x_free`; else the whole step, and the release
+unfoldable pub atBlocking : (originals n m : ℕ) (q c e : List Float) (segments : List Segments) (fixed : List Bool) (qAmax linear : Float)
+    (indices : List ℕ) (xFree target lower upper : List Float) (tolerance : Float) (multipliers : List Float) → Iterate → Hit → Pass Iterate Result
+atBlocking originals n m q c e segments fixed qAmax linear indices xFree target lower upper tolerance multipliers i (Found step k side) =
+    blocked i (stopped n segments indices xFree (sub (length indices) target xFree) lower upper step k side (i .released) (i .board))
+atBlocking originals n m q c e segments fixed qAmax linear indices xFree target lower upper tolerance multipliers i Nothing =
+    let board = settled indices target lower upper tolerance (i .board) in
+    decided n i board multipliers (release originals n m q c e segments fixed qAmax linear multipliers board)
+
+-- `let tolerance = ..; let blocking = (0..indices.len()).filter_map(..).min_by(..)`
+unfoldable pub stepped : (originals n m : ℕ) (q c e : List Float) (segments : List Segments) (fixed : List Bool) (qAmax linear : Float)
+    (indices : List ℕ) (solved : ℕ) (xFree target lower upper multipliers : List Float) → Iterate → Pass Iterate Result
+stepped originals n m q c e segments fixed qAmax linear indices solved xFree target lower upper multipliers i =
+    let tolerance = stepTolerance solved target originals (take n (i .board .x)) in
+    atBlocking originals n m q c e segments fixed qAmax linear indices xFree target lower upper tolerance multipliers i
+    (blocking (length indices) xFree target lower upper tolerance)
+
+-- `let target = &x_free + delta`
+unfoldable pub toward : Problem → (segments : List Segments) (fixed : List Bool) (qAmax linear : Float) (solved : ℕ) (step multipliers : List Float) →
+    Iterate → Pass Iterate Result
+toward (problem originals n m q c e b) segments fixed qAmax linear solved step multipliers i =
+    let indices = freeIndices n (i .board .state) in
+    let k = length indices in
+    let xFree = select k (take n (i .board .x)) indices in
+    stepped originals n m q c e segments fixed qAmax linear indices solved xFree (add k xFree step) (lowerEnds k n segments (i .board .state))
+    (upperEnds k n segments (i .board .state)) multipliers i
+
+-- of what the code leaves, whatever the right side
+abbrev pub Toward : (originals n m : ℕ) (q c e : List Float) (segments : List Segments) (fixed : List Bool) (qAmax linear : Float) (solved : ℕ)
+    (step multipliers : List Float) → Iterate → (r : Passed) → Type 0
+Toward originals n m q c e segments fixed qAmax linear solved step multipliers i r =
+    (b : List Float) → passedOf n m r ≡ toward (problem originals n m q c e b) segments fixed qAmax linear solved step multipliers i
+
+-- ---- along a direction
+-- `ratio_test(&x_free, &direction, &lower, &upper).ok_or(CutupError::Unbounded)?`
+unfoldable pub atRatio : (n : ℕ) (segments : List Segments) (indices : List ℕ) (xFree direction lower upper : List Float) → Iterate → Hit →
+    Pass Iterate Result
+atRatio n segments indices xFree direction lower upper i (Found step k side) =
+    blocked i (stopped n segments indices xFree direction lower upper step k side (i .released) (i .board))
+atRatio n segments indices xFree direction lower upper i Nothing = done unbounded
+
+unfoldable pub rayStep : (n : ℕ) (segments : List Segments) (indices : List ℕ) (xFree direction lower upper : List Float) → Iterate →
+    Pass Iterate Result
+rayStep n segments indices xFree direction lower upper i =
+    atRatio n segments indices xFree direction lower upper i (ratioTest (length indices) xFree direction lower upper)
+
+unfoldable pub along : (n : ℕ) (segments : List Segments) (direction : List Float) → Iterate → Pass Iterate Result
+along n segments direction i =
+    let indices = freeIndices n (i .board .state) in
+    let k = length indices in
+    let xFree = select k (take n (i .board .x)) indices in
+    rayStep n segments indices xFree direction (lowerEnds k n segments (i .board .state)) (upperEnds k n segments (i .board .state)) i

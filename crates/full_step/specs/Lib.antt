@@ -1,0 +1,2 @@
+pub mod FullStep
+pub mod Laws

@@ -1,0 +1,268 @@
+// qp.rs, the step of a pass of `solve_piecewise_in_units`: toward the minimum on the free variables, or along a direction of zero curvature, until
+// a variable reaches an end of its segment. `indices` are the free variables.
+use blocking::Board;
+use blocking::Hit;
+use iterate::Ending;
+use iterate::Iterate;
+use iterate::Passed;
+use segments::Segments;
+ghost use mathlib.Core.Path.{_≡_};
+ghost use Prim.Native.Nat.{_≤_};
+ghost use lib.ListN.{length, take};
+ghost use Rattle.sizes.specs.Sizes as Sizes;
+ghost use Rattle.vector.specs.Vector.{Below, select};
+ghost use Rattle.segments.specs.Segments.{AllCut, AllPlaced};
+ghost use Rattle.free_list.specs.FreeList.{freeIndices};
+ghost use Rattle.blocking.specs.Blocking.{Entries};
+ghost use Rattle.iterate.specs.Iterate.{passedOf, Kept};
+ghost use Rattle.advance.specs.Advance.{Shape, Gives, Keeps};
+ghost use Rattle.full_step.specs.FullStep as FullStep;
+ghost use Rattle.full_step.specs.FullStep.{Gathered};
+
+// The elements of a that the list names.
+fn selected(a: &[f64], n: usize, list: &[usize]) -> [f64; sizes::VARIABLES]
+    requires { ⌜ (n ≤ length (now a)) × (length (now list) ≤ Sizes.variables) × Below (length (now list)) (now list) n ⌝ }
+    ensures { λ r. ⌜ take (length (now (list .entry))) r ≡ select (length (now (list .entry))) (now (a .entry)) (now (list .entry)) ⌝ }
+{
+    let mut y = [0.0; sizes::VARIABLES];
+    vector::select(a, n, list, list.len(), &mut y);
+    y
+}
+
+// The free variables, and the ends of their segments.
+struct FreeVariables {
+    x: [f64; sizes::VARIABLES],
+    lower: [f64; sizes::VARIABLES],
+    upper: [f64; sizes::VARIABLES],
+}
+
+fn free_variables(
+    board: Board,
+    segments: [Segments; sizes::VARIABLES],
+    n: usize,
+    indices: &[usize],
+) -> FreeVariables
+    requires { ⌜ (n ≤ Sizes.variables)
+        × AllCut n segments
+        × AllPlaced n segments (board .state)
+        × (now indices ≡ freeIndices n (board .state)) ⌝ }
+    ensures { λ r. ⌜ Gathered (length (now (indices .entry))) n segments (now (indices .entry)) board r ⌝ }
+{
+    let x = board.x;
+    let state = board.state;
+    let mut lower = [0.0; sizes::VARIABLES];
+    let mut upper = [0.0; sizes::VARIABLES];
+    free_list::lower_ends(segments, state, n, indices, indices.len(), &mut lower);
+    free_list::upper_ends(segments, state, n, indices, indices.len(), &mut upper);
+    let x_free = selected(&x[..n], n, indices);
+    FreeVariables {
+        x: x_free,
+        lower: lower,
+        upper: upper,
+    }
+}
+
+// Toward the target: to where the first free variable passes an end of its segment, or the whole step.
+fn stepped(
+    iterate: Iterate,
+    segments: [Segments; sizes::VARIABLES],
+    fixed: &[bool],
+    q: &[f64],
+    c: &[f64],
+    e: &[f64],
+    n: usize,
+    m: usize,
+    originals: usize,
+    q_amax: f64,
+    linear: f64,
+    indices: &[usize],
+    solved: usize,
+    x_free: &[f64],
+    target: &[f64],
+    lower: &[f64],
+    upper: &[f64],
+    multipliers: [f64; sizes::COLUMNS],
+) -> Passed
+    requires { ⌜ Shape originals n m (now q) (now c) (now e)
+        × AllCut n segments
+        × Kept originals n segments iterate
+        × (n ≤ length (now fixed))
+        × (now indices ≡ freeIndices n (iterate .board .state))
+        × Entries (length (now indices)) (now «x_free») (now target) (now lower) (now upper)
+        × (solved ≤ length (now target)) ⌝ }
+    ensures { λ r. ⌜ passedOf n m r
+        ≡ FullStep.stepped originals n m (now (q .entry)) (now (c .entry)) (now (e .entry)) segments (now (fixed .entry)) «q_amax» linear
+        (now (indices .entry)) solved (now («x_free» .entry)) (now (target .entry)) (now (lower .entry)) (now (upper .entry)) (take m multipliers)
+        iterate ⌝ }
+    ensures { λ r. ⌜ Kept originals n segments (r .iterate) ⌝ }
+{
+    let board = iterate.board;
+    let x = board.x;
+    let count = indices.len();
+    let tolerance = blocking::step_tolerance(target, solved, &x[..n], originals);
+    let hit = blocking::blocking(x_free, target, lower, upper, count, tolerance);
+    let Hit::Found(step, k, side) = hit else {
+        let next = advance::settled(board, indices, target, lower, upper, tolerance);
+        return advance::decided(
+            iterate,
+            next,
+            segments,
+            fixed,
+            q,
+            c,
+            e,
+            n,
+            m,
+            originals,
+            q_amax,
+            linear,
+            multipliers,
+        );
+    };
+    let direction = dense::sub(target, x_free, count);
+    advance::blocked(
+        iterate,
+        segments,
+        n,
+        indices,
+        x_free,
+        &direction[..count],
+        lower,
+        upper,
+        step,
+        k,
+        side,
+    )
+}
+
+// Along a direction, to where the first free variable reaches an end of its segment.
+fn ray_step(
+    iterate: Iterate,
+    segments: [Segments; sizes::VARIABLES],
+    n: usize,
+    indices: &[usize],
+    x_free: &[f64],
+    direction: &[f64],
+    lower: &[f64],
+    upper: &[f64],
+) -> Passed
+    requires { ⌜ (n ≤ Sizes.variables)
+        × AllCut n segments
+        × AllPlaced n segments (iterate .board .state)
+        × (now indices ≡ freeIndices n (iterate .board .state))
+        × Entries (length (now indices)) (now «x_free») (now direction) (now lower) (now upper) ⌝ }
+    ensures { λ r. ⌜ Gives n r
+        (FullStep.rayStep n segments (now (indices .entry)) (now («x_free» .entry)) (now (direction .entry)) (now (lower .entry))
+        (now (upper .entry)) iterate) ⌝ }
+    ensures { λ r. ⌜ Keeps n segments iterate r ⌝ }
+{
+    let hit = blocking::ratio_test(x_free, direction, lower, upper, indices.len());
+    let Hit::Found(step, k, side) = hit else {
+        return iterate::ended(Ending::Unbounded, iterate);
+    };
+    advance::blocked(
+        iterate,
+        segments,
+        n,
+        indices,
+        x_free,
+        direction,
+        lower,
+        upper,
+        step,
+        k,
+        side,
+    )
+}
+
+// The full step; `solved` of the free variables are no slacks.
+pub fn toward(
+    iterate: Iterate,
+    segments: [Segments; sizes::VARIABLES],
+    fixed: &[bool],
+    q: &[f64],
+    c: &[f64],
+    e: &[f64],
+    n: usize,
+    m: usize,
+    originals: usize,
+    q_amax: f64,
+    linear: f64,
+    indices: &[usize],
+    solved: usize,
+    step: &[f64],
+    multipliers: [f64; sizes::COLUMNS],
+) -> Passed
+    requires { ⌜ Shape originals n m (now q) (now c) (now e)
+        × AllCut n segments
+        × Kept originals n segments iterate
+        × (n ≤ length (now fixed))
+        × (now indices ≡ freeIndices n (iterate .board .state))
+        × (solved ≤ length (now indices))
+        × (length (now indices) ≤ length (now step)) ⌝ }
+    ensures { λ r. ⌜ FullStep.Toward originals n m (now (q .entry)) (now (c .entry)) (now (e .entry)) segments (now (fixed .entry)) «q_amax» linear
+        solved (now (step .entry)) (take m multipliers) iterate r ⌝ }
+    ensures { λ r. ⌜ Kept originals n segments (r .iterate) ⌝ }
+{
+    let board = iterate.board;
+    let count = indices.len();
+    let free = free_variables(board, segments, n, indices);
+    let x_free = free.x;
+    let lower = free.lower;
+    let upper = free.upper;
+    let target = dense::add(&x_free[..count], step, count);
+    stepped(
+        iterate,
+        segments,
+        fixed,
+        q,
+        c,
+        e,
+        n,
+        m,
+        originals,
+        q_amax,
+        linear,
+        indices,
+        solved,
+        &x_free[..count],
+        &target[..count],
+        &lower[..count],
+        &upper[..count],
+        multipliers,
+    )
+}
+
+// Along a direction of zero curvature.
+pub fn along(
+    iterate: Iterate,
+    segments: [Segments; sizes::VARIABLES],
+    n: usize,
+    indices: &[usize],
+    direction: &[f64],
+) -> Passed
+    requires { ⌜ (n ≤ Sizes.variables)
+        × AllCut n segments
+        × AllPlaced n segments (iterate .board .state)
+        × (now indices ≡ freeIndices n (iterate .board .state))
+        × (length (now indices) ≤ length (now direction)) ⌝ }
+    ensures { λ r. ⌜ Gives n r (FullStep.along n segments (now (direction .entry)) iterate) ⌝ }
+    ensures { λ r. ⌜ Keeps n segments iterate r ⌝ }
+{
+    let board = iterate.board;
+    let count = indices.len();
+    let free = free_variables(board, segments, n, indices);
+    let x_free = free.x;
+    let lower = free.lower;
+    let upper = free.upper;
+    ray_step(
+        iterate,
+        segments,
+        n,
+        indices,
+        &x_free[..count],
+        direction,
+        &lower[..count],
+        &upper[..count],
+    )
+}

@@ -1,0 +1,43 @@
+// qp.rs, `solve_piecewise_in_units`: what a pass changes, and what it ends in.
+ghost use mathlib.Core.Path.{_≡_};
+ghost use lib.ListN.{replicate};
+ghost use Rattle.sizes.specs.Sizes as Sizes;
+ghost use Rattle.arith.specs.Float.{f0};
+use blocking::Board;
+use blocking::Released;
+use factoring::Factoring;
+
+// The point with its active set, the variable that the pass before released, where every variable was last freed at once, and the kept factor.
+pub struct Iterate {
+    pub board: Board,
+    pub released: Released,
+    pub freed: bool,
+    pub freed_at: [f64; sizes::VARIABLES],
+    pub factoring: Factoring,
+}
+
+pub enum Ending {
+    More,
+    Optimal,
+    NonFiniteCovariance,
+    SingularCovariance,
+    Unbounded,
+    NotConverged,
+}
+
+// Where the next pass starts, or where the last one stands; the multipliers count where it is Optimal.
+pub struct Passed {
+    pub ending: Ending,
+    pub iterate: Iterate,
+    pub multipliers: [f64; sizes::COLUMNS],
+}
+
+pub fn ended(ending: Ending, iterate: Iterate) -> Passed
+    ensures { λ r. ⌜ (r .ending ≡ ending) × (r .iterate ≡ iterate) × (r .multipliers ≡ replicate Sizes.columns f0) ⌝ }
+{
+    Passed {
+        ending: ending,
+        iterate: iterate,
+        multipliers: [0.0; sizes::COLUMNS],
+    }
+}
