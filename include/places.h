@@ -13,8 +13,11 @@
  *    6 crossed        lower above upper
  *    7 bad list       count, order or word number
  *    9 wrong shape    counts or lengths that don't go together
+ *   10 blank bound    a bound of a variable or a row is NaN
  *   11 not finite     a term of the objective
  *   12 no answer      the numbers don't reach: singular, or too ill-conditioned to solve
+ *   13 unbounded      the objective falls without end
+ *   14 not converged  the passes run out, or a pass can't go on
  *   15 overrun        gap outside signed 64 bits (kept for this; no input gives it)
  *  100 no optimum     the objective falls without end, or no x satisfies the equations
  *
@@ -54,7 +57,7 @@ double places_sqrt(double x);
  * 11 where an entry of K or c, each over its variable's scale, is not finite; 12 where there is no variable, the average diagonal entry is negative
  * or not finite, the eigenvalues were not found, the residual of what was found overflows, or the x that was found is not finite or misses an
  * equation. 100 is no refusal of the input but an answer: there is no optimum, as the objective falls without end or no x satisfies the equations.
- * Whatever is not 0 leaves x and multipliers as they were. Stack: 70 KB. */
+ * Whatever is not 0 leaves x and multipliers as they were. Stack: 75 KB. */
 uint32_t places_solve_kkt(const double *k, size_t k_len,
                           const double *c, size_t c_len,
                           const double *e, size_t e_len,
@@ -62,6 +65,55 @@ uint32_t places_solve_kkt(const double *k, size_t k_len,
                           size_t n, size_t m,
                           double *x, size_t x_len,
                           double *multipliers, size_t multipliers_len);
+
+/* The x that minimizes x'Qx/2 - c'x subject to E'x = b, to lower <= x <= upper and to row_lower <= A'x <= row_upper, from `start`, by an
+ * active-set method. Q is n by n, E is n by m, A is n by r, column after column; n is at most 32, m at most 8 and r at most 16. A bound or a limit
+ * may be infinite; a lower one at or above its upper one fixes its variable, or its row, at the lower. x is written to n places, and to m + r places
+ * the multipliers of the equations and then of the rows: Qx + E(the first m) + A(the last r) is c but for variables at a bound. *passes becomes the
+ * number of passes made, the last one included, at most 100 + 20 (n + r).
+ *
+ * The start is held to its bounds; one that misses an equation or a row is not refused, and mostly ends in 12.
+ *
+ * Refusals, in this order: 9 where a count is too large or a slice has not the length that the counts give it (q n * n; c, lower, upper, start and
+ * x n; e n * m; b m; a n * r; row_lower and row_upper r; multipliers m + r); 10 where one of the four lists of bounds and limits has a NaN; then, by
+ * the first pass that comes to it, 11 where an entry of Q or c that the pass solves with, over its variable's scale, is not finite; 12 where the pass
+ * is refused a step as places_solve_kkt refuses an answer, or finds no direction to descend in, or where the x at the end misses an equation or a
+ * row's limit; 13 where the objective falls without end; 14 where the passes run out, where all variables are held at a point where all were freed
+ * before, or where what would lower the objective can't leave its bound. Whatever is not 0 leaves x, multipliers and *passes as they were.
+ * Stack: 291 KB. */
+uint32_t places_solve_bounded(const double *q, size_t q_len,
+                              const double *c, size_t c_len,
+                              const double *e, size_t e_len,
+                              const double *b, size_t b_len,
+                              const double *lower, size_t lower_len,
+                              const double *upper, size_t upper_len,
+                              const double *a, size_t a_len,
+                              const double *row_lower, size_t row_lower_len,
+                              const double *row_upper, size_t row_upper_len,
+                              const double *start, size_t start_len,
+                              size_t n, size_t m, size_t r,
+                              double *x, size_t x_len,
+                              double *multipliers, size_t multipliers_len,
+                              uint64_t *passes);
+
+/* The same with a kink in the cost of each variable: slopes[i] * |x[i] - at[i]| is added to what is minimized, and a variable may be held at its
+ * kink as at a bound. at and slopes have n elements; a slope that is not above 0 adds nothing. Stack: 291 KB. */
+uint32_t places_solve_piecewise(const double *q, size_t q_len,
+                                const double *c, size_t c_len,
+                                const double *e, size_t e_len,
+                                const double *b, size_t b_len,
+                                const double *lower, size_t lower_len,
+                                const double *upper, size_t upper_len,
+                                const double *a, size_t a_len,
+                                const double *row_lower, size_t row_lower_len,
+                                const double *row_upper, size_t row_upper_len,
+                                const double *at, size_t at_len,
+                                const double *slopes, size_t slopes_len,
+                                const double *start, size_t start_len,
+                                size_t n, size_t m, size_t r,
+                                double *x, size_t x_len,
+                                double *multipliers, size_t multipliers_len,
+                                uint64_t *passes);
 
 #ifdef __cplusplus
 }

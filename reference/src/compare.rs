@@ -17,7 +17,7 @@ pub struct Written {
 }
 
 impl Written {
-    fn new(x: usize, multipliers: usize) -> Self {
+    pub fn new(x: usize, multipliers: usize) -> Self {
         let filling = f64::from_bits(FILLING);
         Written {
             x: vec![filling; x],

@@ -4,8 +4,9 @@
 
 use crate::answer::{self, Answer};
 use crate::block::{self, Block, Pair};
+use crate::cases::engine::Case;
 use crate::check::DEAREST;
-use crate::engine::{Capped, Problem, solve_turnover_capped};
+use crate::engine::{Capped, solve_turnover_capped};
 use crate::exact;
 use crate::refusal::{NOT_CONVERGED, SHORT_SLICE};
 
@@ -35,14 +36,26 @@ pub fn answer(block: &Block) -> Result<Answer, u32> {
     })
 }
 
-/// Hands the block to the engine: half the cost is ½ xᵀQx − cᵀx + Σ slope × |x − key| and a
-/// constant, 'anchors are equality columns, spans rows', the cap bounds Σ |x − key|.
+/// Hands the block to the engine.
+fn solve(block: &Block) -> Result<Capped, u32> {
+    let case = engine_case(block);
+    solve_turnover_capped(
+        &case.problem(),
+        &case.at,
+        &case.slopes,
+        &case.start,
+        case.cap,
+    )
+}
+
+/// What the engine gets: half the cost is ½ xᵀQx − cᵀx + Σ slope × |x − key| and a constant,
+/// 'anchors are equality columns, spans rows', the cap bounds Σ |x − key|.
 ///
 /// 'Q adds weight × coefficient products, c adds weight × target × coefficient'. Every product
 /// and every partial sum is a whole number: in Q of at most 64 terms × 64 × 8 × 8 = 2¹⁸, in c of
 /// at most 64 terms × 64 × 2²³ × 8 = 2³⁸. Below 2⁵³ these are exact in f64, and no sum from +0 is
 /// −0, so the order of adding and multiplying can't show in a bit of Q or c.
-fn solve(block: &Block) -> Result<Capped, u32> {
+pub fn engine_case(block: &Block) -> Case {
     let n = block.words.len();
     let mut q = vec![0.0; n * n];
     let mut c = vec![0.0; n];
@@ -64,28 +77,25 @@ fn solve(block: &Block) -> Result<Capped, u32> {
     let each_span = |number: fn(&block::Span) -> i32| -> Vec<f64> {
         block.spans.iter().map(|s| f64::from(number(s))).collect()
     };
-    let b: Vec<f64> = block.anchors.iter().map(|a| f64::from(a.value)).collect();
-    let problem = Problem {
-        q: &q,
-        c: &c,
-        e: &columns(block.anchors.iter().map(|a| &a.list[..]), n),
-        b: &b,
-        lower: &each_word(|w| w.lower),
-        upper: &each_word(|w| w.upper),
-        a: &columns(block.spans.iter().map(|s| &s.list[..]), n),
-        row_lower: &each_span(|s| s.lower),
-        row_upper: &each_span(|s| s.upper),
+    Case {
         n,
         m: block.anchors.len(),
         r: block.spans.len(),
-    };
-    solve_turnover_capped(
-        &problem,
-        &each_word(|w| w.key),
-        &each_word(|w| w.slope),
-        &each_word(|w| w.start),
-        f64::from(block.cap),
-    )
+        q,
+        c,
+        e: columns(block.anchors.iter().map(|a| &a.list[..]), n),
+        b: block.anchors.iter().map(|a| f64::from(a.value)).collect(),
+        lower: each_word(|w| w.lower),
+        upper: each_word(|w| w.upper),
+        a: columns(block.spans.iter().map(|s| &s.list[..]), n),
+        row_lower: each_span(|s| s.lower),
+        row_upper: each_span(|s| s.upper),
+        at: each_word(|w| w.key),
+        slopes: each_word(|w| w.slope),
+        start: each_word(|w| w.start),
+        cap: f64::from(block.cap),
+        ..Case::empty("blocks")
+    }
 }
 
 /// A column of `n` coefficients for each list, 0 for a word that isn't in it.

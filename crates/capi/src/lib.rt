@@ -5,6 +5,8 @@ ghost use mathlib.Core.Path.{_≡_};
 ghost use lib.Ieee.{binary64};
 ghost use Rattle.kkt.specs.Kkt as Kkt;
 ghost use Rattle.scaled.specs.System.{system};
+ghost use Rattle.piecewise.specs.Piecewise as Piecewise;
+ghost use Rattle.piecewise.specs.Piecewise.{bounded, quadratic};
 ghost use Rattle.root.specs.Root.{root};
 ghost use Rattle.plan_check.specs.Promise.{Answered};
 
@@ -40,4 +42,97 @@ pub extern "C" fn places_solve_kkt(
         (now (x .entry)) (now (x .exit)) (now (multipliers .entry)) (now (multipliers .exit)) ⌝ }
 {
     kkt::solve_kkt(k, c, e, b, n, m, x, multipliers)
+}
+
+// Minimizes ½xᵀQx − cᵀx subject to Eᵀx = b, to the bounds and to the rows' limits, from start.
+#[no_mangle]
+pub extern "C" fn places_solve_bounded(
+    q: &[f64],
+    c: &[f64],
+    e: &[f64],
+    b: &[f64],
+    lower: &[f64],
+    upper: &[f64],
+    a: &[f64],
+    row_lower: &[f64],
+    row_upper: &[f64],
+    start: &[f64],
+    n: usize,
+    m: usize,
+    r: usize,
+    x: &mut [f64],
+    multipliers: &mut [f64],
+    passes: &mut u64,
+) -> u32
+    ensures { λ t. ⌜ Piecewise.Answered (bounded n m r (now (q .entry)) (now (c .entry)) (now (e .entry)) (now (b .entry)) (now (lower .entry))
+        (now (upper .entry)) (now (a .entry)) (now («row_lower» .entry)) (now («row_upper» .entry)) (now (start .entry))) t
+        (now (x .entry)) (now (x .exit)) (now (multipliers .entry)) (now (multipliers .exit)) (now (passes .entry)) (now (passes .exit)) ⌝ }
+{
+    piecewise::solve_bounded(
+        q,
+        c,
+        e,
+        b,
+        lower,
+        upper,
+        a,
+        row_lower,
+        row_upper,
+        start,
+        n,
+        m,
+        r,
+        x,
+        multipliers,
+        passes,
+    )
+}
+
+// The same with a cost of slopesᵢ|xᵢ − atᵢ| for each variable.
+#[no_mangle]
+pub extern "C" fn places_solve_piecewise(
+    q: &[f64],
+    c: &[f64],
+    e: &[f64],
+    b: &[f64],
+    lower: &[f64],
+    upper: &[f64],
+    a: &[f64],
+    row_lower: &[f64],
+    row_upper: &[f64],
+    at: &[f64],
+    slopes: &[f64],
+    start: &[f64],
+    n: usize,
+    m: usize,
+    r: usize,
+    x: &mut [f64],
+    multipliers: &mut [f64],
+    passes: &mut u64,
+) -> u32
+    ensures { λ t. ⌜ Piecewise.Answered (quadratic n m r (now (q .entry)) (now (c .entry)) (now (e .entry)) (now (b .entry)) (now (lower .entry))
+        (now (upper .entry)) (now (a .entry)) (now («row_lower» .entry)) (now («row_upper» .entry)) (now (at .entry)) (now (slopes .entry))
+        (now (start .entry))) t
+        (now (x .entry)) (now (x .exit)) (now (multipliers .entry)) (now (multipliers .exit)) (now (passes .entry)) (now (passes .exit)) ⌝ }
+{
+    piecewise::solve_piecewise(
+        q,
+        c,
+        e,
+        b,
+        lower,
+        upper,
+        a,
+        row_lower,
+        row_upper,
+        at,
+        slopes,
+        start,
+        n,
+        m,
+        r,
+        x,
+        multipliers,
+        passes,
+    )
 }

@@ -247,19 +247,52 @@ pub fn one_if(differs: bool) -> usize {
     0
 }
 
-// How many floats are not those of the answer, with which the record ends.
-pub fn compare_answer(s: &[u8], at: usize, x: &[f64], multipliers: &[f64]) -> usize {
+// How many floats differ, and where what was compared ends.
+pub struct Compared {
+    pub differ: usize,
+    pub at: usize,
+}
+
+// x and the multipliers with the two slices of an answer.
+pub fn compare_slices(s: &[u8], at: usize, x: &[f64], multipliers: &[f64]) -> Compared {
     let mut a = [0.0; 255];
     let mut b = [0.0; 255];
     let first = slice(s, at, &mut a);
     let second = slice(s, first.at, &mut b);
     let i = first.count;
     let j = second.count;
-    let differ = std::num::wrapping_add_usize(
-        differing(x, &a[..i]),
-        differing(multipliers, &b[..j]),
-    );
-    std::num::wrapping_add_usize(differ, one_if(second.at < s.len()))
+    Compared {
+        differ: std::num::wrapping_add_usize(
+            differing(x, &a[..i]),
+            differing(multipliers, &b[..j]),
+        ),
+        at: second.at,
+    }
+}
+
+// How many floats are not those of the answer, with which the record ends.
+pub fn compare_answer(s: &[u8], at: usize, x: &[f64], multipliers: &[f64]) -> usize {
+    let compared = compare_slices(s, at, x, multipliers);
+    std::num::wrapping_add_usize(compared.differ, one_if(compared.at < s.len()))
+}
+
+// What x and the multipliers hold before a call, and after a refusal.
+pub const BEFORE: f64 = 8191.0625;
+
+// How many floats are not as they were before the call.
+fn written(x: &[f64]) -> usize {
+    let before = [BEFORE; 510];
+    let n = x.len();
+    if n > 510 {
+        return 1;
+    }
+    differing(x, &before[..n])
+}
+
+// How many floats a refusal has written; the record ends with the outcome.
+pub fn compare_refusal(s: &[u8], at: usize, x: &[f64], multipliers: &[f64]) -> usize {
+    let differ = std::num::wrapping_add_usize(written(x), written(multipliers));
+    std::num::wrapping_add_usize(differ, one_if(at < s.len()))
 }
 
 // More at a place of a tally.

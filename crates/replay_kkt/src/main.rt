@@ -1,25 +1,6 @@
 // Runs `solve_kkt` on the cases of standard input again, in the format of docs/CASES.md, 'Engine calls', and compares its
 // number and every bit with the reference.
 
-// What x and the multipliers hold before the call, and after a refusal.
-const BEFORE: f64 = 8191.0625;
-
-// How many floats are not as they were before the call.
-fn written(x: &[f64]) -> usize {
-    let before = [BEFORE; 255];
-    let n = x.len();
-    if n > 255 {
-        return 1;
-    }
-    replay::differing(x, &before[..n])
-}
-
-// How many floats a refusal has written; the record ends with the outcome.
-fn compare_refusal(s: &[u8], at: usize, x: &[f64], multipliers: &[f64]) -> usize {
-    let differ = std::num::wrapping_add_usize(written(x), written(multipliers));
-    std::num::wrapping_add_usize(differ, replay::one_if(at < s.len()))
-}
-
 // How many floats of a case come out otherwise; what follows the outcome in the record s begins at a place.
 fn compare(
     s: &[u8],
@@ -41,7 +22,7 @@ fn compare(
     if outcome == 0 {
         return replay::compare_answer(s, at, &x[..], &multipliers[..]);
     }
-    compare_refusal(s, at, &x[..], &multipliers[..])
+    replay::compare_refusal(s, at, &x[..], &multipliers[..])
 }
 
 // A record's outcome, and how many floats differ.
@@ -55,8 +36,8 @@ fn run(s: &[u8]) -> Replayed {
     let mut c = [0.0; 1152];
     let mut e = [0.0; 1152];
     let mut b = [0.0; 1152];
-    let mut x = [BEFORE; 255];
-    let mut multipliers = [BEFORE; 255];
+    let mut x = [replay::BEFORE; 255];
+    let mut multipliers = [replay::BEFORE; 255];
     let first = replay::slice(s, 4, &mut k);
     let second = replay::slice(s, first.at, &mut c);
     let third = replay::slice(s, second.at, &mut e);

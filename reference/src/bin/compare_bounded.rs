@@ -2,79 +2,12 @@
 //!
 //!     cargo run --release --offline --features library --bin compare_bounded -- SEED COUNT
 
-use reference::cases::engine::{Call, Case};
-use reference::compare::{self, Written};
-
-#[link(name = "capi", kind = "static")]
-unsafe extern "C" {
-    fn places_solve_bounded(
-        q: *const f64,
-        q_len: usize,
-        c: *const f64,
-        c_len: usize,
-        e: *const f64,
-        e_len: usize,
-        b: *const f64,
-        b_len: usize,
-        lower: *const f64,
-        lower_len: usize,
-        upper: *const f64,
-        upper_len: usize,
-        a: *const f64,
-        a_len: usize,
-        row_lower: *const f64,
-        row_lower_len: usize,
-        row_upper: *const f64,
-        row_upper_len: usize,
-        start: *const f64,
-        start_len: usize,
-        n: usize,
-        m: usize,
-        r: usize,
-        x: *mut f64,
-        x_len: usize,
-        multipliers: *mut f64,
-        multipliers_len: usize,
-        passes: *mut u64,
-    ) -> u32;
-}
-
-fn solve(case: &Case, written: &mut Written) -> u32 {
-    // SAFETY: each pointer is that of a slice of the length after it, or of a number.
-    unsafe {
-        places_solve_bounded(
-            case.q.as_ptr(),
-            case.q.len(),
-            case.c.as_ptr(),
-            case.c.len(),
-            case.e.as_ptr(),
-            case.e.len(),
-            case.b.as_ptr(),
-            case.b.len(),
-            case.lower.as_ptr(),
-            case.lower.len(),
-            case.upper.as_ptr(),
-            case.upper.len(),
-            case.a.as_ptr(),
-            case.a.len(),
-            case.row_lower.as_ptr(),
-            case.row_lower.len(),
-            case.row_upper.as_ptr(),
-            case.row_upper.len(),
-            case.start.as_ptr(),
-            case.start.len(),
-            case.n,
-            case.m,
-            case.r,
-            written.x.as_mut_ptr(),
-            written.x.len(),
-            written.multipliers.as_mut_ptr(),
-            written.multipliers.len(),
-            &mut written.passes,
-        )
-    }
-}
+use reference::cases::engine::Call;
+use reference::compare;
+use reference::library;
 
 fn main() {
-    compare::engine(Call::Bounded, solve);
+    compare::engine(Call::Bounded, |case, written| {
+        library::solve_bounded(&case.problem(), &case.start, written)
+    });
 }

@@ -9,9 +9,11 @@
 use reference::bench::Problem;
 use reference::block::write;
 use reference::cases::attempt::Attempt;
-use reference::cases::block::limits;
+use reference::cases::block::{limits, realistic};
+use reference::compare::Written;
 use reference::library;
 use reference::rng::Rng;
+use reference::service::engine_case;
 use std::arch::asm;
 use std::hint::black_box;
 
@@ -101,8 +103,33 @@ fn solve_kkt(n: usize, m: usize) -> usize {
     depth
 }
 
+/// The deepest of some problems of so many words, whatever the outcome.
+fn solve_piecewise(words: usize) -> usize {
+    let mut rng = Rng::new(1);
+    let depths = (0..20).map(|_| {
+        let case = engine_case(&realistic(&mut rng, words));
+        let mut written = Written::new(case.n, case.m + case.r);
+        depth(&mut || {
+            black_box(library::solve_piecewise(
+                &case.problem(),
+                &case.at,
+                &case.slopes,
+                &case.start,
+                &mut written,
+            ));
+        })
+    });
+    depths.max().expect("a problem")
+}
+
 fn main() {
     println!("| call | bytes of stack |\n|---|---:|");
+    for words in [32, 8, 2] {
+        println!(
+            "| `places_solve_piecewise`, {words} words | {} |",
+            solve_piecewise(words)
+        );
+    }
     for (n, m) in [(32, 8), (8, 8), (8, 0), (1, 0)] {
         println!(
             "| `places_solve_kkt`, n = {n}, m = {m} | {} |",

@@ -2,8 +2,8 @@ use mathlib.Core.Path.{sym}
 use native.Mathlib.Omega.{arith}
 use lib.Seq.{length-take-le}
 use borrow.Author.Needs.{needs}
-use Rattle.replay_kkt.proofs.written.Statement.{statement}
-use Rattle.replay_kkt.proofs.written.Tie as tie
+use Rattle.replay.proofs.written.Statement.{statement}
+use Rattle.replay.proofs.written.Tie as tie
 
 pub written-spec : {M : Type 1} → statement M
 written-spec =

@@ -1,0 +1,195 @@
+-- Laws of the definitions: what each verdict answers, what a pass gives, what the start keeps, what the calls leave, put together, how many passes
+-- are made, and how long an answer is.
+use mathlib.Core.Path.{_≡_, refl, sym, subst, _∙_}
+use mathlib.Core.Bool.{Bool, true, false}
+use mathlib.Core.List.{List}
+use Prim.Native.Nat.{ℕ, zero, suc, _+_, _*_, _<_, _≤_}
+use native.Mathlib.Omega.{arith}
+use lib.ListN.{length, take}
+use lib.Ieee.{Float}
+use lib.Seq.{length-take-le}
+use Rattle.folds.specs.Fold.{false-true}
+use Rattle.folds.specs.Run as Run
+use Rattle.folds.specs.Run.{Pass, more, done, run}
+use Rattle.folds.specs.Tab.{length-tab}
+use Rattle.arith.specs.Scalar.{max}
+use Rattle.vector.specs.Vector.{amax}
+use Rattle.factoring.specs.Laws.{good-new}
+use Rattle.segments.specs.Segments.{AllCut}
+use Rattle.segments.specs.Start.{allFixed, slopeAmax}
+use Rattle.segments.specs.Laws.{all-placed}
+use Rattle.segments.specs.declared.Segments.{Segments}
+use Rattle.iterate.specs.Problem.{Problem, problem}
+use Rattle.iterate.specs.Iterate as Result
+use Rattle.iterate.specs.Iterate.{Result, passedOf, Kept}
+use Rattle.iterate.specs.Laws.{passed-more, passed-optimal, passed-nonFinite, passed-singular, passed-unbounded, passed-notConverged}
+use Rattle.iterate.specs.declared.Iterate.{Iterate}
+use Rattle.iterate.specs.declared.Ending.{Ending}
+use Rattle.iterate.specs.declared.Ending.the-variants as Ending
+use Rattle.iterate.specs.declared.Passed.{Passed}
+use Rattle.pass.specs.Pass.{pass}
+use Rattle.active.specs.declared.Verdict.{Verdict}
+use Rattle.active.specs.declared.Verdict.the-variants.{Optimal, NonFiniteCovariance, SingularCovariance, Unbounded, NotConverged}
+use Rattle.active.specs.declared.Answer as Declared
+use Rattle.active.specs.Answer.{Answer, optimal, nonFinite, singular, unbounded, notConverged, answer, answerOf}
+use Rattle.active.specs.Active.{counted, step, goesOn, Ends, started, budget, spent, passes, solvePiecewiseInUnits}
+
+module _ (x multipliers : List Float) (passes : ℕ) where
+  pub answer-optimal : answer Optimal x multipliers passes ≡ optimal x multipliers passes
+  unfolding answer
+  answer-optimal = refl
+
+  pub answer-nonFinite : answer NonFiniteCovariance x multipliers passes ≡ nonFinite
+  unfolding answer
+  answer-nonFinite = refl
+
+  pub answer-singular : answer SingularCovariance x multipliers passes ≡ singular
+  unfolding answer
+  answer-singular = refl
+
+  pub answer-unbounded : answer Unbounded x multipliers passes ≡ unbounded
+  unfolding answer
+  answer-unbounded = refl
+
+  pub answer-notConverged : answer NotConverged x multipliers passes ≡ notConverged
+  unfolding answer
+  answer-notConverged = refl
+
+module _ (n m : ℕ) (r : Declared.Answer) where
+  pub answerOf-answer : answerOf n m r ≡ answer (r .verdict) (take n (r .x)) (take m (r .multipliers)) (r .passes)
+  unfolding answerOf
+  answerOf-answer = refl
+
+  -- by its verdict
+  pub answerOf-optimal : r .verdict ≡ Optimal → answerOf n m r ≡ optimal (take n (r .x)) (take m (r .multipliers)) (r .passes)
+  answerOf-optimal e = answerOf-answer ∙ rw (e, answer-optimal)
+
+  pub answerOf-nonFinite : r .verdict ≡ NonFiniteCovariance → answerOf n m r ≡ nonFinite
+  answerOf-nonFinite e = answerOf-answer ∙ rw (e, answer-nonFinite)
+
+  pub answerOf-singular : r .verdict ≡ SingularCovariance → answerOf n m r ≡ singular
+  answerOf-singular e = answerOf-answer ∙ rw (e, answer-singular)
+
+  pub answerOf-unbounded : r .verdict ≡ Unbounded → answerOf n m r ≡ unbounded
+  answerOf-unbounded e = answerOf-answer ∙ rw (e, answer-unbounded)
+
+  pub answerOf-notConverged : r .verdict ≡ NotConverged → answerOf n m r ≡ notConverged
+  answerOf-notConverged e = answerOf-answer ∙ rw (e, answer-notConverged)
+
+-- ---- a pass goes on, or ends in an answer
+goes-more : (e : Ending) → goesOn e ≡ true → e ≡ Ending.More
+unfolding goesOn
+goes-more Ending.More h = refl
+goes-more Ending.Optimal h = absurd (false-true h)
+goes-more Ending.NonFiniteCovariance h = absurd (false-true h)
+goes-more Ending.SingularCovariance h = absurd (false-true h)
+goes-more Ending.Unbounded h = absurd (false-true h)
+goes-more Ending.NotConverged h = absurd (false-true h)
+
+pub more-goes : (e : Ending) → e ≡ Ending.More → goesOn e ≡ false → ⊥
+unfolding goesOn
+more-goes e m h = false-true (sym (rw m at h))
+
+module _ (p : Passed) (passes : ℕ) where
+  pub counted-more : (n m : ℕ) → goesOn (p .ending) ≡ true → counted passes (passedOf n m p) ≡ more (p .iterate)
+  unfolding counted
+  counted-more n m h = rw (passed-more n m p (goes-more (p .ending) h))
+
+  pub ends-optimal : p .ending ≡ Ending.Optimal →
+      Ends p passes (record { verdict = Optimal; x = p .iterate .board .x; multipliers = p .multipliers; passes = passes })
+  unfolding counted
+  ends-optimal e n m =
+      let r : Declared.Answer = record { verdict = Optimal; x = p .iterate .board .x; multipliers = p .multipliers; passes = passes } in
+      rw (passed-optimal n m p e, answerOf-optimal n m r refl)
+
+  module _ (r : Declared.Answer) where
+    pub ends-nonFinite : p .ending ≡ Ending.NonFiniteCovariance → r .verdict ≡ NonFiniteCovariance → Ends p passes r
+    unfolding counted
+    ends-nonFinite e v n m = rw (passed-nonFinite n m p e, answerOf-nonFinite n m r v)
+
+    pub ends-singular : p .ending ≡ Ending.SingularCovariance → r .verdict ≡ SingularCovariance → Ends p passes r
+    unfolding counted
+    ends-singular e v n m = rw (passed-singular n m p e, answerOf-singular n m r v)
+
+    pub ends-unbounded : p .ending ≡ Ending.Unbounded → r .verdict ≡ Unbounded → Ends p passes r
+    unfolding counted
+    ends-unbounded e v n m = rw (passed-unbounded n m p e, answerOf-unbounded n m r v)
+
+    pub ends-notConverged : p .ending ≡ Ending.NotConverged → r .verdict ≡ NotConverged → Ends p passes r
+    unfolding counted
+    ends-notConverged e v n m = rw (passed-notConverged n m p e, answerOf-notConverged n m r v)
+
+-- ---- where the passes start
+pub started-kept : (originals n : ℕ) (segments : List Segments) (start : List Float) → AllCut n segments →
+    Kept originals n segments (started n segments start)
+unfolding started
+started-kept originals n segments start cut =
+    record { placed = all-placed n segments _ _ _ cut refl; factor = good-new originals }
+
+-- ---- what the calls leave, put together
+pub length-allFixed : (n : ℕ) (segments : List Segments) → length (allFixed n segments) ≡ n
+unfolding allFixed
+length-allFixed n segments = length-tab n _
+
+pub units-from : {r : Answer} {fixed : List Bool} {qAmax linear cAmax slopes : Float} {i : Iterate} (originals n m : ℕ) (q c e b : List Float)
+    (segments : List Segments) (start : List Float) → fixed ≡ allFixed n segments → qAmax ≡ amax (n * n) q → cAmax ≡ amax n c →
+    slopes ≡ slopeAmax n segments → linear ≡ max cAmax slopes → i ≡ started n segments start →
+    r ≡ passes (problem originals n m q c e b) segments fixed qAmax linear i →
+    r ≡ solvePiecewiseInUnits (problem originals n m q c e b) segments start
+unfolding solvePiecewiseInUnits
+units-from originals n m q c e b segments start f g h k l s r = r ∙ rw (s, l, h, k, g, f)
+
+-- ---- the number of passes is from 1 to the budget
+abbrev pub Within : (budget : ℕ) → Answer → Type 0
+Within budget (optimal x multipliers passes) = (1 ≤ passes) × (passes ≤ budget)
+Within budget nonFinite = Unit {0}
+Within budget singular = Unit {0}
+Within budget unbounded = Unit {0}
+Within budget notConverged = Unit {0}
+
+module _ (p : Problem) (segments : List Segments) (fixed : List Bool) (qAmax linear : Float) (limit : ℕ) where
+  counted-within : (made : ℕ) (r : Pass Iterate Result) → made < limit → Run.Kept (λ _. Unit {0}) (Within limit) (counted (made + 1) r)
+  unfolding counted Run.Kept
+  counted-within made (more i) h = tt
+  counted-within made (done (Result.optimal x multipliers)) h = (omega arith, omega arith)
+  counted-within made (done Result.nonFinite) h = tt
+  counted-within made (done Result.singular) h = tt
+  counted-within made (done Result.unbounded) h = tt
+  counted-within made (done Result.notConverged) h = tt
+
+  run-within : (left made : ℕ) (r : Pass Iterate Answer) → left + made ≤ limit → Run.Kept (λ _. Unit {0}) (Within limit) r →
+      Within limit (run (step p segments fixed qAmax linear) spent left made r)
+  unfolding run step Run.Kept
+  run-within zero made (done a) h k = k
+  run-within zero made (more i) h k = tt
+  run-within (suc left) made (done a) h k = k
+  run-within (suc left) made (more i) h k =
+      run-within left (made + 1) (counted (made + 1) (pass p segments fixed qAmax linear i)) (omega arith)
+      (counted-within made (pass p segments fixed qAmax linear i) (omega arith))
+
+pub solve-within : (originals n m : ℕ) (q c e b : List Float) (segments : List Segments) (start : List Float) →
+    Within (budget n) (solvePiecewiseInUnits (problem originals n m q c e b) segments start)
+unfolding solvePiecewiseInUnits passes Run.Kept
+solve-within originals n m q c e b segments start =
+    run-within (problem originals n m q c e b) segments _ _ _ (budget n) (budget n) 0 (more (started n segments start)) (omega arith) tt
+
+-- ---- an optimal answer has x's n entries and m multipliers
+abbrev pub Filled : (n m : ℕ) → Answer → Type 0
+Filled n m (optimal x multipliers passes) = (length x ≡ n) × (length multipliers ≡ m)
+Filled n m nonFinite = Unit {0}
+Filled n m singular = Unit {0}
+Filled n m unbounded = Unit {0}
+Filled n m notConverged = Unit {0}
+
+module _ (n m : ℕ) (r : Declared.Answer) (x-holds : n ≤ length (r .x)) (multipliers-hold : m ≤ length (r .multipliers)) where
+  answer-filled : (v : Verdict) → Filled n m (answer v (take n (r .x)) (take m (r .multipliers)) (r .passes))
+  unfolding answer
+  answer-filled Optimal = (length-take-le n (r .x) x-holds, length-take-le m (r .multipliers) multipliers-hold)
+  answer-filled NonFiniteCovariance = tt
+  answer-filled SingularCovariance = tt
+  answer-filled Unbounded = tt
+  answer-filled NotConverged = tt
+
+  pub solve-filled : {a : Answer} → answerOf n m r ≡ a → Filled n m a
+  unfolding answerOf
+  solve-filled e = subst (Filled n m) e (answer-filled (r .verdict))

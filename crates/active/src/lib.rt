@@ -1,0 +1,249 @@
+// qp.rs, `solve_piecewise_in_units`: the primal active-set method on a problem in `Units`. Q is n by n, E is n by m; the variables from `originals`
+// on are slacks, each with one of the last columns of E.
+ghost use mathlib.Core.Path.{_≡_};
+ghost use mathlib.Core.Bool.{false};
+ghost use Prim.Native.Nat.{_≤_};
+ghost use lib.ListN.{length};
+ghost use Rattle.sizes.specs.Sizes as Sizes;
+ghost use Rattle.segments.specs.Segments.{AllCut};
+ghost use Rattle.iterate.specs.Problem.{problem, Shaped, Room};
+ghost use Rattle.iterate.specs.Iterate.{Kept};
+ghost use Rattle.active.specs.Answer.{answerOf};
+ghost use Rattle.active.specs.Active as Definition;
+use blocking::Board;
+use blocking::Released;
+use factoring::Factoring;
+use iterate::Ending;
+use iterate::Iterate;
+use iterate::Passed;
+use segments::Segments;
+
+pub enum Verdict {
+    Optimal,
+    NonFiniteCovariance,
+    SingularCovariance,
+    Unbounded,
+    NotConverged,
+}
+
+// x, the multipliers and the number of passes made count where it is Optimal.
+pub struct Answer {
+    pub verdict: Verdict,
+    pub x: [f64; sizes::VARIABLES],
+    pub multipliers: [f64; sizes::COLUMNS],
+    pub passes: usize,
+}
+
+pub fn refused(verdict: Verdict) -> Answer
+    ensures { λ r. ⌜ r .verdict ≡ verdict ⌝ }
+{
+    Answer {
+        verdict: verdict,
+        x: [0.0; sizes::VARIABLES],
+        multipliers: [0.0; sizes::COLUMNS],
+        passes: 0,
+    }
+}
+
+fn started(segments: [Segments; sizes::VARIABLES], n: usize, start: &[f64]) -> Iterate
+    requires { ⌜ (n ≤ Sizes.variables) × (n ≤ length (now start)) × AllCut n segments ⌝ }
+    ensures { λ r. ⌜ r ≡ Definition.started n segments (now (start .entry)) ⌝ }
+{
+    let x = segments::all_held(segments, n, start);
+    let state = segments::all_placed(segments, n, &x[..n]);
+    let board = Board {
+        x: x,
+        state: state,
+        refused: [false; sizes::VARIABLES],
+    };
+    let released = Released::NoOne;
+    let factoring = Factoring::new();
+    Iterate {
+        board: board,
+        released: released,
+        freed: false,
+        freed_at: [0.0; sizes::VARIABLES],
+        factoring: factoring,
+    }
+}
+
+fn goes_on(ending: Ending) -> bool
+    ensures { λ r. ⌜ r ≡ Definition.goesOn ending ⌝ }
+{
+    match ending {
+        Ending::More => true,
+        Ending::Optimal => false,
+        Ending::NonFiniteCovariance => false,
+        Ending::SingularCovariance => false,
+        Ending::Unbounded => false,
+        Ending::NotConverged => false,
+    }
+}
+
+// The answer of the last pass.
+fn answered(passed: Passed, passes: usize) -> Answer
+    requires { ⌜ Definition.goesOn (passed .ending) ≡ false ⌝ }
+    ensures { λ r. ⌜ Definition.Ends passed passes r ⌝ }
+{
+    let ending = passed.ending;
+    let iterate = passed.iterate;
+    let board = iterate.board;
+    let x = board.x;
+    let multipliers = passed.multipliers;
+    match ending {
+        Ending::Optimal => Answer {
+            verdict: Verdict::Optimal,
+            x: x,
+            multipliers: multipliers,
+            passes: passes,
+        },
+        Ending::NonFiniteCovariance => refused(Verdict::NonFiniteCovariance),
+        Ending::SingularCovariance => refused(Verdict::SingularCovariance),
+        Ending::Unbounded => refused(Verdict::Unbounded),
+        Ending::NotConverged => refused(Verdict::NotConverged),
+        Ending::More => refused(Verdict::NotConverged),
+    }
+}
+
+// The passes from `iterate` on, until one of them ends or the budget is spent. The slices from room on are work memory.
+fn passes(
+    iterate: Iterate,
+    segments: [Segments; sizes::VARIABLES],
+    fixed: &[bool],
+    q: &[f64],
+    c: &[f64],
+    e: &[f64],
+    b: &[f64],
+    n: usize,
+    m: usize,
+    originals: usize,
+    q_amax: f64,
+    linear: f64,
+    room: &mut [f64],
+    q_free: &mut [f64],
+    e_free: &mut [f64],
+    gram: &mut [f64],
+    ks: &mut [f64],
+    es: &mut [f64],
+    left: &mut [f64],
+    coefficients: &mut [f64],
+    range: &mut [f64],
+    qq: &mut [f64],
+    null: &mut [f64],
+    h: &mut [f64],
+    vectors: &mut [f64],
+) -> Answer
+    requires { ⌜ Shaped originals n m (now q) (now c) (now e) (now b)
+        × AllCut n segments
+        × Kept originals n segments iterate
+        × (length (now fixed) ≡ n)
+        × Room originals n m (now room) (now «q_free») (now «e_free») (now gram) (now ks) (now es) (now left) (now coefficients) (now range)
+        (now qq) (now null) (now h) (now vectors) ⌝ }
+    ensures { λ r. ⌜ answerOf n m r
+        ≡ Definition.passes (problem originals n m (now (q .entry)) (now (c .entry)) (now (e .entry)) (now (b .entry))) segments
+        (now (fixed .entry)) «q_amax» linear iterate ⌝ }
+{
+    let mut at = iterate;
+    for made in 0..100 + 20 * n {
+        let passed = pass::pass(
+            at,
+            segments,
+            fixed,
+            q,
+            c,
+            e,
+            b,
+            n,
+            m,
+            originals,
+            q_amax,
+            linear,
+            room,
+            q_free,
+            e_free,
+            gram,
+            ks,
+            es,
+            left,
+            coefficients,
+            range,
+            qq,
+            null,
+            h,
+            vectors,
+        );
+        let ending = passed.ending;
+        if goes_on(ending) {
+            at = passed.iterate;
+        } else {
+            return answered(passed, made + 1);
+        }
+    }
+    refused(Verdict::NotConverged)
+}
+
+pub fn solve_piecewise_in_units(
+    q: &[f64],
+    c: &[f64],
+    e: &[f64],
+    b: &[f64],
+    n: usize,
+    m: usize,
+    originals: usize,
+    segments: [Segments; sizes::VARIABLES],
+    start: &[f64],
+    room: &mut [f64],
+    q_free: &mut [f64],
+    e_free: &mut [f64],
+    gram: &mut [f64],
+    ks: &mut [f64],
+    es: &mut [f64],
+    left: &mut [f64],
+    coefficients: &mut [f64],
+    range: &mut [f64],
+    qq: &mut [f64],
+    null: &mut [f64],
+    h: &mut [f64],
+    vectors: &mut [f64],
+) -> Answer
+    requires { ⌜ Shaped originals n m (now q) (now c) (now e) (now b)
+        × AllCut n segments
+        × (n ≤ length (now start))
+        × Room originals n m (now room) (now «q_free») (now «e_free») (now gram) (now ks) (now es) (now left) (now coefficients) (now range)
+        (now qq) (now null) (now h) (now vectors) ⌝ }
+    ensures { λ r. ⌜ answerOf n m r
+        ≡ Definition.solvePiecewiseInUnits (problem originals n m (now (q .entry)) (now (c .entry)) (now (e .entry)) (now (b .entry))) segments
+        (now (start .entry)) ⌝ }
+{
+    let fixed = segments::all_fixed(segments, n);
+    let q_amax = vector::amax(q, n * n);
+    let linear = arith::max(vector::amax(c, n), segments::slope_amax(segments, n));
+    let iterate = started(segments, n, start);
+    passes(
+        iterate,
+        segments,
+        &fixed[..n],
+        q,
+        c,
+        e,
+        b,
+        n,
+        m,
+        originals,
+        q_amax,
+        linear,
+        room,
+        q_free,
+        e_free,
+        gram,
+        ks,
+        es,
+        left,
+        coefficients,
+        range,
+        qq,
+        null,
+        h,
+        vectors,
+    )
+}

@@ -1,0 +1,40 @@
+use Rattle.folds.specs.Kit.{arith, needs}
+use Rattle.sizes.specs.Sizes as Sizes
+use Rattle.piecewise.specs.Holds.{room-of}
+use Rattle.piecewise.proofs.engine_large.Statement.{statement}
+use Rattle.piecewise.proofs.engine_large.Tie as tie
+
+solve-piecewise-in-units-requires : tie.Need-solve-piecewise-in-units-requires
+solve-piecewise-in-units-requires c κs =
+    let s = c .before .before .before .before .before .before .before .before .before in
+    let p = s .before .before .before .before .before .before .before .before .before .pre in (
+      p .0,
+      p .1,
+      p .2,
+      room-of {x = Sizes.originals} {y = Sizes.variables} {z = Sizes.columns} _ _ _ _ (p .0 .few)
+          (p .0 .variables) (omega arith) (omega arith) (omega arith)
+          (omega arith) (omega arith) (omega arith),
+    )
+
+pub engine-large-spec : {M : Type 1} → statement M
+engine-large-spec =
+    tie.close
+    (tie.spec
+    (λ c. search needs)  -- add-solve-piecewise-in-units
+    (λ c. search needs)  -- add-solve-piecewise-in-units-2
+    (λ c. search needs)  -- slice-aggregate-solve-piecewise-in-units
+    (λ c. search needs)  -- slice-aggregate-solve-piecewise-in-units-2
+    (λ c. search needs)  -- slice-aggregate-solve-piecewise-in-units-3
+    (λ c. search needs)  -- slice-aggregate-solve-piecewise-in-units-4
+    (λ c. search needs)  -- slice-aggregate-solve-piecewise-in-units-5
+    (λ c. search needs)  -- slice-aggregate-solve-piecewise-in-units-6
+    (λ c. search needs)  -- slice-aggregate-solve-piecewise-in-units-7
+    (λ c. search needs)  -- slice-aggregate-solve-piecewise-in-units-8
+    (λ c. search needs)  -- slice-aggregate-solve-piecewise-in-units-9
+    (λ c. search needs)  -- slice-aggregate-solve-piecewise-in-units-10
+    (λ c. search needs)  -- slice-aggregate-solve-piecewise-in-units-11
+    (λ c. search needs)  -- slice-aggregate-solve-piecewise-in-units-12
+    (λ c. search needs)  -- slice-aggregate-solve-piecewise-in-units-13
+    solve-piecewise-in-units-requires
+    (λ c. let s = c .before .before .before .before .before .before .before in
+    s .before .before .before .before .before .before .solve-piecewise-in-units .ensures))  -- returns

@@ -1,0 +1,39 @@
+use Rattle.folds.specs.Kit.{_+_, arith, needs}
+use Rattle.sizes.specs.Sizes as Sizes
+use Rattle.piecewise.specs.Holds.{few, room-of}
+use Rattle.piecewise.proofs.engine_small.Statement.{statement}
+use Rattle.piecewise.proofs.engine_small.Tie as tie
+
+solve-piecewise-in-units-requires : tie.Need-solve-piecewise-in-units-requires
+solve-piecewise-in-units-requires c κs =
+    let s = c .before .before .before .before .before .before .before .before .before in
+    let p = s .before .before .before .before .before .before .before .before .before .pre in (
+      p .0,
+      p .1,
+      p .2,
+      room-of {x = few} {y = few + few} {z = Sizes.equalities + few} _ _ _ _ (p .5) (omega arith) (omega arith) (omega arith) (omega arith)
+          (omega arith) (omega arith) (omega arith),
+    )
+
+pub engine-small-spec : {M : Type 1} → statement M
+engine-small-spec =
+    tie.close
+    (tie.spec
+    (λ c. search needs)  -- add-solve-piecewise-in-units
+    (λ c. search needs)  -- add-solve-piecewise-in-units-2
+    (λ c. search needs)  -- slice-aggregate-solve-piecewise-in-units
+    (λ c. search needs)  -- slice-aggregate-solve-piecewise-in-units-2
+    (λ c. search needs)  -- slice-aggregate-solve-piecewise-in-units-3
+    (λ c. search needs)  -- slice-aggregate-solve-piecewise-in-units-4
+    (λ c. search needs)  -- slice-aggregate-solve-piecewise-in-units-5
+    (λ c. search needs)  -- slice-aggregate-solve-piecewise-in-units-6
+    (λ c. search needs)  -- slice-aggregate-solve-piecewise-in-units-7
+    (λ c. search needs)  -- slice-aggregate-solve-piecewise-in-units-8
+    (λ c. search needs)  -- slice-aggregate-solve-piecewise-in-units-9
+    (λ c. search needs)  -- slice-aggregate-solve-piecewise-in-units-10
+    (λ c. search needs)  -- slice-aggregate-solve-piecewise-in-units-11
+    (λ c. search needs)  -- slice-aggregate-solve-piecewise-in-units-12
+    (λ c. search needs)  -- slice-aggregate-solve-piecewise-in-units-13
+    solve-piecewise-in-units-requires
+    (λ c. let s = c .before .before .before .before .before .before .before in
+    s .before .before .before .before .before .before .solve-piecewise-in-units .ensures))  -- returns

@@ -1,0 +1,3 @@
+pub mod Piecewise
+pub mod Holds
+pub mod Laws

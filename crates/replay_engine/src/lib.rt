@@ -1,0 +1,358 @@
+// Runs the engine's calls on the cases of standard input again, in the format of docs/CASES.md, 'Engine calls', and compares number, passes and
+// every bit with the reference.
+use replay::BEFORE;
+use replay::Floats;
+ghost use Prim.Native.Nat.{_≤_};
+ghost use lib.ListN.{length};
+
+// What the passes are before a call, and after a refusal.
+const PASSES: u64 = 123_456_789;
+
+// A record's call byte.
+pub const BOUNDED: usize = 1;
+
+pub const PIECEWISE: usize = 2;
+
+// The slice at a place, or none where the call has none there.
+fn slice_if(has: bool, s: &[u8], at: usize, y: &mut [f64]) -> Floats
+    ensures { λ r. ⌜ r .count ≤ length (now (y .entry)) ⌝ }
+{
+    if has {
+        return replay::slice(s, at, y);
+    }
+    Floats { count: 0, at: at }
+}
+
+// What a call wrote, with the answer: x, the multipliers, the passes.
+fn compare_solved(s: &[u8], at: usize, x: &[f64], multipliers: &[f64], passes: u64) -> usize {
+    let compared = replay::compare_slices(s, at, x, multipliers);
+    let counted = replay::one_if(replay::number32(s, compared.at) as u64 != passes);
+    let end = replay::one_if(replay::past(s, compared.at, 4) < s.len());
+    std::num::wrapping_add_usize(compared.differ, std::num::wrapping_add_usize(counted, end))
+}
+
+fn compare_refused(s: &[u8], at: usize, x: &[f64], multipliers: &[f64], passes: u64) -> usize {
+    let differ = replay::compare_refusal(s, at, x, multipliers);
+    std::num::wrapping_add_usize(differ, replay::one_if(passes != PASSES))
+}
+
+// The call, with kinks or without.
+fn solve(
+    kinked: bool,
+    q: &[f64],
+    c: &[f64],
+    e: &[f64],
+    b: &[f64],
+    lower: &[f64],
+    upper: &[f64],
+    a: &[f64],
+    row_lower: &[f64],
+    row_upper: &[f64],
+    at: &[f64],
+    slopes: &[f64],
+    start: &[f64],
+    n: usize,
+    m: usize,
+    r: usize,
+    x: &mut [f64],
+    multipliers: &mut [f64],
+    passes: &mut u64,
+) -> u32 {
+    if kinked {
+        return piecewise::solve_piecewise(
+            q,
+            c,
+            e,
+            b,
+            lower,
+            upper,
+            a,
+            row_lower,
+            row_upper,
+            at,
+            slopes,
+            start,
+            n,
+            m,
+            r,
+            x,
+            multipliers,
+            passes,
+        );
+    }
+    piecewise::solve_bounded(
+        q,
+        c,
+        e,
+        b,
+        lower,
+        upper,
+        a,
+        row_lower,
+        row_upper,
+        start,
+        n,
+        m,
+        r,
+        x,
+        multipliers,
+        passes,
+    )
+}
+
+// How many numbers of a case come out otherwise; what follows the outcome in the record s begins at a place.
+fn compare(
+    s: &[u8],
+    place: usize,
+    outcome: usize,
+    kinked: bool,
+    q: &[f64],
+    c: &[f64],
+    e: &[f64],
+    b: &[f64],
+    lower: &[f64],
+    upper: &[f64],
+    a: &[f64],
+    row_lower: &[f64],
+    row_upper: &[f64],
+    at: &[f64],
+    slopes: &[f64],
+    start: &[f64],
+    n: usize,
+    m: usize,
+    r: usize,
+    x: &mut [f64],
+    multipliers: &mut [f64],
+) -> usize {
+    let mut passes = PASSES;
+    let number = solve(
+        kinked,
+        q,
+        c,
+        e,
+        b,
+        lower,
+        upper,
+        a,
+        row_lower,
+        row_upper,
+        at,
+        slopes,
+        start,
+        n,
+        m,
+        r,
+        x,
+        multipliers,
+        &mut passes,
+    );
+    if number as usize != outcome {
+        return 1;
+    }
+    if outcome == 0 {
+        return compare_solved(s, place, &x[..], &multipliers[..], passes);
+    }
+    compare_refused(s, place, &x[..], &multipliers[..], passes)
+}
+
+// A record's outcome, and how many numbers differ.
+struct Replayed {
+    outcome: usize,
+    differ: usize,
+}
+
+// The rest of a record, from the kinks on, and the case.
+fn run_kinks(
+    s: &[u8],
+    kinks: usize,
+    kinked: bool,
+    q: &[f64],
+    c: &[f64],
+    e: &[f64],
+    b: &[f64],
+    lower: &[f64],
+    upper: &[f64],
+    a: &[f64],
+    row_lower: &[f64],
+    row_upper: &[f64],
+) -> Replayed {
+    let mut at = [0.0; 1152];
+    let mut slopes = [0.0; 1152];
+    let mut start = [0.0; 1152];
+    let mut x = [BEFORE; 255];
+    let mut multipliers = [BEFORE; 510];
+    let first = slice_if(kinked, s, kinks, &mut at);
+    let second = slice_if(kinked, s, first.at, &mut slopes);
+    let third = replay::slice(s, second.at, &mut start);
+    let outcome = replay::byte(s, third.at);
+    let place = replay::past(s, third.at, 1);
+    let n = replay::byte(s, 1);
+    let m = replay::byte(s, 2);
+    let r = replay::byte(s, 3);
+    let w = m + r;
+    let i = first.count;
+    let j = second.count;
+    let k = third.count;
+    let differ = compare(
+        s,
+        place,
+        outcome,
+        kinked,
+        q,
+        c,
+        e,
+        b,
+        lower,
+        upper,
+        a,
+        row_lower,
+        row_upper,
+        &at[..i],
+        &slopes[..j],
+        &start[..k],
+        n,
+        m,
+        r,
+        &mut x[..n],
+        &mut multipliers[..w],
+    );
+    Replayed {
+        outcome: outcome,
+        differ: differ,
+    }
+}
+
+// The same from the bounds on.
+fn run_bounds(
+    s: &[u8],
+    bounds: usize,
+    kinked: bool,
+    q: &[f64],
+    c: &[f64],
+    e: &[f64],
+    b: &[f64],
+) -> Replayed {
+    let mut lower = [0.0; 1152];
+    let mut upper = [0.0; 1152];
+    let mut a = [0.0; 1152];
+    let mut row_lower = [0.0; 1152];
+    let mut row_upper = [0.0; 1152];
+    let first = replay::slice(s, bounds, &mut lower);
+    let second = replay::slice(s, first.at, &mut upper);
+    let third = replay::slice(s, second.at, &mut a);
+    let fourth = replay::slice(s, third.at, &mut row_lower);
+    let fifth = replay::slice(s, fourth.at, &mut row_upper);
+    let i = first.count;
+    let j = second.count;
+    let k = third.count;
+    let l = fourth.count;
+    let o = fifth.count;
+    run_kinks(
+        s,
+        fifth.at,
+        kinked,
+        q,
+        c,
+        e,
+        b,
+        &lower[..i],
+        &upper[..j],
+        &a[..k],
+        &row_lower[..l],
+        &row_upper[..o],
+    )
+}
+
+fn run(s: &[u8], call: usize) -> Replayed {
+    let mut q = [0.0; 1152];
+    let mut c = [0.0; 1152];
+    let mut e = [0.0; 1152];
+    let mut b = [0.0; 1152];
+    let first = replay::slice(s, 4, &mut q);
+    let second = replay::slice(s, first.at, &mut c);
+    let third = replay::slice(s, second.at, &mut e);
+    let fourth = replay::slice(s, third.at, &mut b);
+    let i = first.count;
+    let j = second.count;
+    let k = third.count;
+    let l = fourth.count;
+    let mut replayed = run_bounds(
+        s,
+        fourth.at,
+        call == PIECEWISE,
+        &q[..i],
+        &c[..j],
+        &e[..k],
+        &b[..l],
+    );
+    replayed.differ = std::num::wrapping_add_usize(
+        replayed.differ,
+        replay::one_if(replay::byte(s, 0) != call),
+    );
+    replayed
+}
+
+// Places of the tally.
+const RECORDS: usize = 0;
+
+const DIFFERENCES: usize = 1;
+
+const SOLVED: usize = 2;
+
+const WRONG_SHAPE: usize = 3;
+
+const BLANK_BOUND: usize = 4;
+
+const NOT_FINITE: usize = 5;
+
+const SINGULAR: usize = 6;
+
+const UNBOUNDED: usize = 7;
+
+const NOT_CONVERGED: usize = 8;
+
+// An outcome that the call doesn't have is a difference.
+fn place(outcome: usize) -> usize {
+    match outcome {
+        0 => SOLVED,
+        9 => WRONG_SHAPE,
+        10 => BLANK_BOUND,
+        11 => NOT_FINITE,
+        12 => SINGULAR,
+        13 => UNBOUNDED,
+        14 => NOT_CONVERGED,
+        _ => DIFFERENCES,
+    }
+}
+
+fn count(tally: &mut [u64], r: Replayed) {
+    replay::add(tally, RECORDS, 1);
+    replay::add(tally, place(r.outcome), 1);
+    replay::add(tally, DIFFERENCES, r.differ as u64);
+}
+
+fn report(tally: [u64; 9]) {
+    replay::line(b"solved ", tally[SOLVED]);
+    replay::line(b"wrong shape ", tally[WRONG_SHAPE]);
+    replay::line(b"blank bound ", tally[BLANK_BOUND]);
+    replay::line(b"not finite ", tally[NOT_FINITE]);
+    replay::line(b"singular ", tally[SINGULAR]);
+    replay::line(b"unbounded ", tally[UNBOUNDED]);
+    replay::line(b"not converged ", tally[NOT_CONVERGED]);
+    replay::line(b"records ", tally[RECORDS]);
+    replay::line(b"differences ", tally[DIFFERENCES]);
+}
+
+// Every record of standard input, of one call.
+pub fn run_list(call: usize) {
+    let mut tally = [0u64; 9];
+    let mut body = [0u8; 16000];
+    for _ in 0..1000000usize {
+        let n = replay::record(&mut body);
+        if n > body.len() {
+            break;
+        }
+        count(&mut tally, run(&body[..n], call));
+    }
+    report(tally);
+}
