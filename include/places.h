@@ -12,6 +12,7 @@
  *    5 off the tape   a number outside its range
  *    6 crossed        lower above upper
  *    7 bad list       count, order or word number
+ *    8 short page     the answer's slice is too small
  *    9 wrong shape    counts or lengths that don't go together
  *   10 blank bound    a bound of a variable or a row is NaN
  *   11 not finite     a term of the objective
@@ -34,6 +35,18 @@
 #ifdef __cplusplus
 extern "C" {
 #endif
+
+/* Places a block: writes the answer file of the block file `block` to the front of `answer`, and its length, 30 + 4 * words + 8 * (anchors + spans),
+ * at most 350, to *written. What follows it in `answer` keeps its value. The answer has four fields, each a tag (1 byte), the length of its body
+ * (2 bytes) and the body, low byte first: 17, a time for each word, in samples (4 bytes each, signed); 18, a price for each anchor, each span and the
+ * cap (8 bytes each, signed); 19, the gap (8 bytes, signed); 20, the passes of the accepted solve (2 bytes). Every window is kept; rounding may pass
+ * the cap by half a sample for each word, and an anchor or a span by half the sum of its coefficients' sizes.
+ *
+ * Refusals, in this order: the block's, 1 to 7; 8; 12 and 14. On a refusal answer and *written keep their values. docs/BLOCKS.md says what to mend.
+ * Stack: STACK KB. */
+uint32_t places_place(const uint8_t *block, size_t block_len,
+                      uint8_t *answer, size_t answer_len,
+                      uint64_t *written);
 
 /* The check of anyone's plan: the gap of `times` (a time for each word, in samples, 0 to 262,144) and `prices` (one for each anchor, then one for
  * each span, each within +-4,294,967,296, then the cap's, 0 to 4,294,967,296) for the block file `block`. The plan need keep no window, anchor,

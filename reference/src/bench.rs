@@ -19,9 +19,10 @@ fn time(call: &mut impl FnMut(), calls: u32) -> Duration {
     started.elapsed()
 }
 
-/// So many calls that they take a round, so that the clock is read twice in one.
-fn calls_of_a_round(call: &mut impl FnMut()) -> u32 {
-    let mut calls = 1;
+/// So many calls that they take a round, so that the clock is read twice in one, and that each of
+/// so many inputs is called equally often.
+fn calls_of_a_round(call: &mut impl FnMut(), inputs: usize) -> u32 {
+    let mut calls = inputs as u32;
     while time(call, calls) < ROUND {
         calls *= 2;
     }
@@ -70,8 +71,8 @@ impl Table {
             black_box(second.next().map(|input| library(black_box(input))));
         };
         let (calls, library_calls) = (
-            calls_of_a_round(&mut reference),
-            calls_of_a_round(&mut library),
+            calls_of_a_round(&mut reference, inputs.len()),
+            calls_of_a_round(&mut library, inputs.len()),
         );
         let mut row = Row {
             name: name.to_string(),
@@ -101,11 +102,90 @@ impl Table {
     }
 }
 
-/// So many nanoseconds, in microseconds from one on.
+/// How often each input is run on each side: the fewest times, and the most within this time.
+const FEWEST_TURNS: usize = 3;
+const MOST_TURNS: usize = 9;
+const INPUT: Duration = Duration::from_millis(10);
+
+/// The times of each input on each side, in nanoseconds, rising.
+struct Spread {
+    name: String,
+    reference: Vec<f64>,
+    library: Vec<f64>,
+}
+
+impl Spread {
+    /// The times at so many percent, and the library's over the reference's.
+    fn cells(&self, percent: usize) -> String {
+        let at = |times: &[f64]| times[(times.len() - 1) * percent / 100];
+        let (reference, library) = (at(&self.reference), at(&self.library));
+        let ratio = library / reference;
+        let (reference, library) = (duration(reference), duration(library));
+        format!("{reference} | {library} | {ratio:.2}")
+    }
+}
+
+/// Medians and 99th percentiles of calls whose times differ by input, for docs/BENCHMARKS.md.
+#[derive(Default)]
+pub struct Percentiles {
+    rows: Vec<Spread>,
+}
+
+impl Percentiles {
+    /// Adds the times of the inputs, for each the shortest of some calls of each side, taken in
+    /// turn.
+    pub fn measure<I, R, L>(
+        &mut self,
+        name: &str,
+        inputs: &[I],
+        reference: impl Fn(&I) -> R,
+        library: impl Fn(&I) -> L,
+    ) {
+        let mut row = Spread {
+            name: name.to_string(),
+            reference: Vec::new(),
+            library: Vec::new(),
+        };
+        for input in inputs {
+            let mut first = || {
+                black_box(reference(black_box(input)));
+            };
+            let mut second = || {
+                black_box(library(black_box(input)));
+            };
+            let mut shortest = [f64::INFINITY; 2];
+            let started = Instant::now();
+            for turn in 0..MOST_TURNS {
+                if turn >= FEWEST_TURNS && started.elapsed() > INPUT {
+                    break;
+                }
+                shortest[0] = shortest[0].min(round(&mut first, 1));
+                shortest[1] = shortest[1].min(round(&mut second, 1));
+            }
+            row.reference.push(shortest[0]);
+            row.library.push(shortest[1]);
+        }
+        row.reference.sort_by(f64::total_cmp);
+        row.library.sort_by(f64::total_cmp);
+        self.rows.push(row);
+    }
+
+    /// Prints the rows in Markdown.
+    pub fn print(self) {
+        println!("| | median: reference | library | ratio | 99 %: reference | library | ratio |");
+        println!("|---|---:|---:|---:|---:|---:|---:|");
+        for row in &self.rows {
+            println!("| {} | {} | {} |", row.name, row.cells(50), row.cells(99));
+        }
+    }
+}
+
+/// So many nanoseconds, in microseconds from one on, in milliseconds from ten.
 fn duration(nanoseconds: f64) -> String {
-    match nanoseconds < 1000.0 {
-        true => format!("{nanoseconds:.1} ns"),
-        false => format!("{:.1} µs", nanoseconds / 1000.0),
+    match nanoseconds {
+        ..1e3 => format!("{nanoseconds:.1} ns"),
+        ..1e7 => format!("{:.1} µs", nanoseconds / 1e3),
+        _ => format!("{:.1} ms", nanoseconds / 1e6),
     }
 }
 

@@ -1,5 +1,6 @@
 //! Comparison of a library's calls with the reference, at scale.
 
+use crate::cases::caps::capped;
 use crate::cases::engine::{Call, Case, Outcome};
 use crate::cases::families::{Generator, Style};
 use crate::cases::lists::Counts;
@@ -78,19 +79,24 @@ pub fn arguments() -> (u64, u64) {
 }
 
 /// Runs `call` on as many cases as the command line asks for, in both styles, and prints what
-/// they give and the first difference. Ends with status 1 if there is one.
+/// they give, by family and by cap, and the first difference. Ends with status 1 if there is one.
 pub fn engine(call: Call, library: Library) {
     let (seed, count) = arguments();
-    let mut counts = Counts::default();
+    let (mut counts, mut caps) = (Counts::default(), Counts::default());
     let mut differences = 0;
     for number in 0..count {
         let style = match (number >> 5) % 4 {
             0 => Style::Compact,
             _ => Style::Wide,
         };
-        let case = Generator::case(style, call, seed, number);
+        let made = Generator::case(style, call, seed, number);
+        let (case, cap) = match call {
+            Call::Capped => capped(made, seed, number),
+            _ => (made, "none"),
+        };
         let expected = case.run(call);
         counts.add(case.family, expected.number);
+        caps.add(cap, expected.number);
         let mut found = vec![(outcome(call, library, &case, [0, 0]), &expected)];
         // A place to write in whose length the counts don't give is a wrong shape too.
         let refused = Outcome::refusal(WRONG_SHAPE);
@@ -109,6 +115,9 @@ pub fn engine(call: Call, library: Library) {
         }
     }
     println!("{}", counts.table());
+    if call == Call::Capped {
+        println!("{}", caps.table());
+    }
     println!("{count} cases of {call:?} from seed {seed}: {differences} differ");
     if differences > 0 {
         std::process::exit(1);

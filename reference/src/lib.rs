@@ -20,5 +20,6 @@ pub mod refusal;
 pub mod rng;
 pub mod service;
 mod slips;
+pub mod text;
 
 pub use error::CutupError;

@@ -5,6 +5,14 @@ use crate::engine::Problem;
 
 #[link(name = "capi", kind = "static")]
 unsafe extern "C" {
+    fn places_place(
+        block: *const u8,
+        block_len: usize,
+        answer: *mut u8,
+        answer_len: usize,
+        written: *mut u64,
+    ) -> u32;
+
     fn places_check(
         block: *const u8,
         block_len: usize,
@@ -99,21 +107,68 @@ unsafe extern "C" {
         multipliers_len: usize,
         passes: *mut u64,
     ) -> u32;
+
+    fn places_solve_turnover_capped(
+        q: *const f64,
+        q_len: usize,
+        c: *const f64,
+        c_len: usize,
+        e: *const f64,
+        e_len: usize,
+        b: *const f64,
+        b_len: usize,
+        lower: *const f64,
+        lower_len: usize,
+        upper: *const f64,
+        upper_len: usize,
+        a: *const f64,
+        a_len: usize,
+        row_lower: *const f64,
+        row_lower_len: usize,
+        row_upper: *const f64,
+        row_upper_len: usize,
+        at: *const f64,
+        at_len: usize,
+        slopes: *const f64,
+        slopes_len: usize,
+        start: *const f64,
+        start_len: usize,
+        cap: f64,
+        n: usize,
+        m: usize,
+        r: usize,
+        x: *mut f64,
+        x_len: usize,
+        multipliers: *mut f64,
+        multipliers_len: usize,
+        passes: *mut u64,
+        raise: *mut f64,
+    ) -> u32;
+}
+
+/// Calls a function with slices to read, values, slices to write in and places of numbers, in
+/// this order, each slice as its pointer and its length.
+macro_rules! call {
+    ($function:ident; $($read:expr),*; $($value:expr),*; $($write:expr),*; $($place:expr),*) => {
+        // SAFETY: each pointer is that of a slice of the length after it, or of a number.
+        unsafe {
+            $function(
+                $($read.as_ptr(), $read.len(),)*
+                $($value,)*
+                $($write.as_mut_ptr(), $write.len(),)*
+                $($place,)*
+            )
+        }
+    };
+}
+
+/// Writes the answer of `places_place` and its length, and gives its number.
+pub fn place(block: &[u8], answer: &mut [u8], written: &mut u64) -> u32 {
+    call!(places_place; block; ; answer; written)
 }
 
 pub fn check(block: &[u8], times: &[i32], prices: &[i64], gap: &mut i64) -> u32 {
-    // SAFETY: each pointer is that of a slice of the length after it, or of a number.
-    unsafe {
-        places_check(
-            block.as_ptr(),
-            block.len(),
-            times.as_ptr(),
-            times.len(),
-            prices.as_ptr(),
-            prices.len(),
-            gap,
-        )
-    }
+    call!(places_check; block, times, prices; ; ; gap)
 }
 
 pub fn sqrt(x: f64) -> f64 {
@@ -127,62 +182,16 @@ pub fn solve_kkt(
     x: &mut [f64],
     multipliers: &mut [f64],
 ) -> u32 {
-    // SAFETY: each pointer is that of a slice of the length after it.
-    unsafe {
-        places_solve_kkt(
-            k.as_ptr(),
-            k.len(),
-            c.as_ptr(),
-            c.len(),
-            e.as_ptr(),
-            e.len(),
-            b.as_ptr(),
-            b.len(),
-            n,
-            m,
-            x.as_mut_ptr(),
-            x.len(),
-            multipliers.as_mut_ptr(),
-            multipliers.len(),
-        )
-    }
+    call!(places_solve_kkt; k, c, e, b; n, m; x, multipliers; )
 }
 
 /// Writes the answer of `places_solve_bounded` and gives its number.
 pub fn solve_bounded(p: &Problem, start: &[f64], written: &mut Written) -> u32 {
-    // SAFETY: each pointer is that of a slice of the length after it, or of a number.
-    unsafe {
-        places_solve_bounded(
-            p.q.as_ptr(),
-            p.q.len(),
-            p.c.as_ptr(),
-            p.c.len(),
-            p.e.as_ptr(),
-            p.e.len(),
-            p.b.as_ptr(),
-            p.b.len(),
-            p.lower.as_ptr(),
-            p.lower.len(),
-            p.upper.as_ptr(),
-            p.upper.len(),
-            p.a.as_ptr(),
-            p.a.len(),
-            p.row_lower.as_ptr(),
-            p.row_lower.len(),
-            p.row_upper.as_ptr(),
-            p.row_upper.len(),
-            start.as_ptr(),
-            start.len(),
-            p.n,
-            p.m,
-            p.r,
-            written.x.as_mut_ptr(),
-            written.x.len(),
-            written.multipliers.as_mut_ptr(),
-            written.multipliers.len(),
-            &mut written.passes,
-        )
-    }
+    call!(places_solve_bounded;
+        p.q, p.c, p.e, p.b, p.lower, p.upper, p.a, p.row_lower, p.row_upper, start;
+        p.n, p.m, p.r;
+        written.x, written.multipliers;
+        &mut written.passes)
 }
 
 /// And that of `places_solve_piecewise`.
@@ -193,41 +202,25 @@ pub fn solve_piecewise(
     start: &[f64],
     written: &mut Written,
 ) -> u32 {
-    // SAFETY: each pointer is that of a slice of the length after it, or of a number.
-    unsafe {
-        places_solve_piecewise(
-            p.q.as_ptr(),
-            p.q.len(),
-            p.c.as_ptr(),
-            p.c.len(),
-            p.e.as_ptr(),
-            p.e.len(),
-            p.b.as_ptr(),
-            p.b.len(),
-            p.lower.as_ptr(),
-            p.lower.len(),
-            p.upper.as_ptr(),
-            p.upper.len(),
-            p.a.as_ptr(),
-            p.a.len(),
-            p.row_lower.as_ptr(),
-            p.row_lower.len(),
-            p.row_upper.as_ptr(),
-            p.row_upper.len(),
-            at.as_ptr(),
-            at.len(),
-            slopes.as_ptr(),
-            slopes.len(),
-            start.as_ptr(),
-            start.len(),
-            p.n,
-            p.m,
-            p.r,
-            written.x.as_mut_ptr(),
-            written.x.len(),
-            written.multipliers.as_mut_ptr(),
-            written.multipliers.len(),
-            &mut written.passes,
-        )
-    }
+    call!(places_solve_piecewise;
+        p.q, p.c, p.e, p.b, p.lower, p.upper, p.a, p.row_lower, p.row_upper, at, slopes, start;
+        p.n, p.m, p.r;
+        written.x, written.multipliers;
+        &mut written.passes)
+}
+
+/// And that of `places_solve_turnover_capped`.
+pub fn solve_turnover_capped(
+    p: &Problem,
+    at: &[f64],
+    slopes: &[f64],
+    start: &[f64],
+    cap: f64,
+    written: &mut Written,
+) -> u32 {
+    call!(places_solve_turnover_capped;
+        p.q, p.c, p.e, p.b, p.lower, p.upper, p.a, p.row_lower, p.row_upper, at, slopes, start;
+        cap, p.n, p.m, p.r;
+        written.x, written.multipliers;
+        &mut written.passes, &mut written.raise)
 }

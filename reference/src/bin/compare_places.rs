@@ -6,18 +6,8 @@
 use reference::cases::lists::Counts;
 use reference::cases::scale::place_case;
 use reference::compare;
+use reference::library;
 use reference::service::place;
-
-#[link(name = "capi", kind = "static")]
-unsafe extern "C" {
-    fn places_place(
-        block: *const u8,
-        block_length: usize,
-        answer: *mut u8,
-        answer_length: usize,
-        written: *mut u64,
-    ) -> u32;
-}
 
 /// What stands in the answer's slice and in its length before each call.
 const UNTOUCHED: u8 = 0xA5;
@@ -29,17 +19,7 @@ type Outcome = (u32, u64, Vec<u8>);
 fn library(block: &[u8], length: usize) -> Outcome {
     let mut slice = vec![UNTOUCHED; length];
     let mut written = UNCOUNTED;
-    // SAFETY: each pointer and length is of a slice that lives until the call ends, the answer's
-    // and `written` are this function's own.
-    let number = unsafe {
-        places_place(
-            block.as_ptr(),
-            block.len(),
-            slice.as_mut_ptr(),
-            slice.len(),
-            &mut written,
-        )
-    };
+    let number = library::place(block, &mut slice, &mut written);
     (number, written, slice)
 }
 
@@ -56,14 +36,14 @@ fn main() {
     let mut counts = Counts::default();
     let mut differences = 0;
     for number in 0..count {
-        let (block, length) = place_case(seed, number);
-        let expected = reference(&block, length);
-        let found = library(&block, length);
-        counts.add("places", expected.0);
+        let case = place_case(seed, number);
+        let expected = reference(&case.block, case.slice);
+        let found = library(&case.block, case.slice);
+        counts.add(case.family, expected.0);
         if found != expected {
             differences += 1;
             if differences == 1 {
-                println!("seed {seed}, case {number}: {block:?}");
+                println!("seed {seed}, case {number}: {case:?}");
                 println!("reference: {expected:?}\nlibrary:   {found:?}\n");
             }
         }

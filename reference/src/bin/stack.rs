@@ -7,9 +7,9 @@
 //! calls it, some 100 bytes, are counted too.
 
 use reference::bench::Problem;
-use reference::block::write;
+use reference::block::{Block, write};
 use reference::cases::attempt::Attempt;
-use reference::cases::block::{limits, realistic};
+use reference::cases::block::{binding, limits, realistic};
 use reference::compare::Written;
 use reference::library;
 use reference::rng::Rng;
@@ -122,8 +122,52 @@ fn solve_piecewise(words: usize) -> usize {
     depths.max().expect("a problem")
 }
 
+/// The same, of problems whose cap binds.
+fn solve_turnover_capped(words: usize) -> usize {
+    let mut rng = Rng::new(1);
+    let depths = (0..20).map(|_| {
+        let case = engine_case(&binding(&mut rng, words));
+        let mut written = Written::new(case.n, case.m + case.r);
+        depth(&mut || {
+            black_box(library::solve_turnover_capped(
+                &case.problem(),
+                &case.at,
+                &case.slopes,
+                &case.start,
+                case.cap,
+                &mut written,
+            ));
+        })
+    });
+    depths.max().expect("a problem")
+}
+
+/// The deepest of some blocks, whatever the outcome.
+fn place(block: fn(&mut Rng) -> Block) -> usize {
+    let mut rng = Rng::new(1);
+    let depths = (0..20).map(|_| {
+        let bytes = write(&block(&mut rng));
+        let (mut answer, mut written) = ([0; 350], 0);
+        depth(&mut || {
+            black_box(library::place(&bytes, &mut answer, &mut written));
+        })
+    });
+    depths.max().expect("a block")
+}
+
 fn main() {
     println!("| call | bytes of stack |\n|---|---:|");
+    println!("| `places_place`, the largest blocks | {} |", place(limits));
+    println!(
+        "| `places_place`, 8 words | {} |",
+        place(|rng| binding(rng, 8))
+    );
+    for words in [32, 8, 2] {
+        println!(
+            "| `places_solve_turnover_capped`, {words} words | {} |",
+            solve_turnover_capped(words)
+        );
+    }
     for words in [32, 8, 2] {
         println!(
             "| `places_solve_piecewise`, {words} words | {} |",

@@ -168,6 +168,43 @@ pub fn tightened(rng: &mut Rng, mut block: Block) -> Block {
     block
 }
 
+/// A realistic block with an anchor on a word whose key misses it. So no raise of the slopes holds
+/// every word at its key, which without an anchor ends in 14.
+fn off_key(rng: &mut Rng, words: usize) -> (Block, Word) {
+    loop {
+        let mut block = realistic(rng, words);
+        let at = rng.below(words);
+        let word = block.words[at];
+        if word.start != word.key && block.anchors.len() < most_fields(ANCHOR) {
+            block.anchors.push(Anchor {
+                value: word.start,
+                list: neighbours(at, &[1]),
+            });
+            return (block, word);
+        }
+    }
+}
+
+/// A realistic block with a cap that binds, most of which are solved.
+pub fn binding(rng: &mut Rng, words: usize) -> Block {
+    let (block, _) = off_key(rng, words);
+    tightened(rng, block)
+}
+
+/// A realistic block with a cap that an anchor alone passes, which costs about a thousand solves.
+pub fn out_of_reach(rng: &mut Rng, words: usize) -> Block {
+    let (mut block, word) = off_key(rng, words);
+    block.cap = rng.below((word.start - word.key).unsigned_abs() as usize) as i32;
+    block
+}
+
+/// Words that only their numbers tell apart.
+pub fn ties(rng: &mut Rng, words: usize) -> Block {
+    let mut block = realistic(rng, words);
+    alike(rng, &mut block);
+    block
+}
+
 /// A realistic block in which one to three things coincide or vanish.
 pub fn degenerate(rng: &mut Rng, words: usize) -> Block {
     let mut block = if rng.chance(50) {

@@ -4,6 +4,7 @@ pub mod algebra;
 pub mod attempt;
 pub mod block;
 pub mod block_lists;
+pub mod caps;
 pub mod code;
 pub mod damage;
 pub mod engine;
