@@ -128,6 +128,32 @@ uint32_t places_solve_piecewise(const double *q, size_t q_len,
                                 double *multipliers, size_t multipliers_len,
                                 uint64_t *passes);
 
+/* The same with the turnover, the sum of |x[i] - at[i]|, at most `cap`: every slope is raised by one number, from 0 up, until the optimum's turnover
+ * reaches the cap, to within the rounding of its sum, or no float lies between two raises. *passes are those of the accepted solve, *raise the raise
+ * that it was accepted at: 0 where the optimum itself keeps the cap.
+ *
+ * Refusals: 9 and 10 as before; 11, 12 and 14 as the solve at raise 0, or one between a raise that keeps the cap and one that doesn't, is refused;
+ * 14 also where a larger raise is refused before one keeps the cap, or none does. It never answers 13: where the objective falls without end, the
+ * turnover is infinite. Whatever is not 0 leaves x, multipliers, *passes and *raise as they were. Stack: STACK KB. */
+uint32_t places_solve_turnover_capped(const double *q, size_t q_len,
+                                      const double *c, size_t c_len,
+                                      const double *e, size_t e_len,
+                                      const double *b, size_t b_len,
+                                      const double *lower, size_t lower_len,
+                                      const double *upper, size_t upper_len,
+                                      const double *a, size_t a_len,
+                                      const double *row_lower, size_t row_lower_len,
+                                      const double *row_upper, size_t row_upper_len,
+                                      const double *at, size_t at_len,
+                                      const double *slopes, size_t slopes_len,
+                                      const double *start, size_t start_len,
+                                      double cap,
+                                      size_t n, size_t m, size_t r,
+                                      double *x, size_t x_len,
+                                      double *multipliers, size_t multipliers_len,
+                                      uint64_t *passes,
+                                      double *raise);
+
 #ifdef __cplusplus
 }
 #endif

@@ -7,6 +7,7 @@ ghost use Rattle.kkt.specs.Kkt as Kkt;
 ghost use Rattle.scaled.specs.System.{system};
 ghost use Rattle.piecewise.specs.Piecewise as Piecewise;
 ghost use Rattle.piecewise.specs.Piecewise.{bounded, quadratic};
+ghost use Rattle.cap.specs.Capped as Capped;
 ghost use Rattle.root.specs.Root.{root};
 ghost use Rattle.plan_check.specs.Promise.{Answered};
 
@@ -134,5 +135,59 @@ pub extern "C" fn places_solve_piecewise(
         x,
         multipliers,
         passes,
+    )
+}
+
+// The same with Σᵢ|xᵢ − atᵢ| at most `cap`, by a raise of every slope.
+#[no_mangle]
+pub extern "C" fn places_solve_turnover_capped(
+    q: &[f64],
+    c: &[f64],
+    e: &[f64],
+    b: &[f64],
+    lower: &[f64],
+    upper: &[f64],
+    a: &[f64],
+    row_lower: &[f64],
+    row_upper: &[f64],
+    at: &[f64],
+    slopes: &[f64],
+    start: &[f64],
+    cap: f64,
+    n: usize,
+    m: usize,
+    r: usize,
+    x: &mut [f64],
+    multipliers: &mut [f64],
+    passes: &mut u64,
+    raise: &mut f64,
+) -> u32
+    ensures { λ t. ⌜ Capped.Answered (quadratic n m r (now (q .entry)) (now (c .entry)) (now (e .entry)) (now (b .entry)) (now (lower .entry))
+        (now (upper .entry)) (now (a .entry)) (now («row_lower» .entry)) (now («row_upper» .entry)) (now (at .entry)) (now (slopes .entry))
+        (now (start .entry))) cap t
+        (now (x .entry)) (now (x .exit)) (now (multipliers .entry)) (now (multipliers .exit)) (now (passes .entry)) (now (passes .exit))
+        (now (raise .entry)) (now (raise .exit)) ⌝ }
+{
+    cap::solve_turnover_capped(
+        q,
+        c,
+        e,
+        b,
+        lower,
+        upper,
+        a,
+        row_lower,
+        row_upper,
+        at,
+        slopes,
+        start,
+        cap,
+        n,
+        m,
+        r,
+        x,
+        multipliers,
+        passes,
+        raise,
     )
 }

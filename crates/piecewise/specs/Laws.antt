@@ -1,4 +1,4 @@
--- Laws of the definitions: what the calls of a solve give, put together, and what the tests of the sizes tell.
+-- Laws of the definitions: what the calls of a solve give, put together, how long an optimal answer is, and what the tests of the sizes tell.
 use mathlib.Core.Path.{_≡_, refl, sym, _∙_}
 use mathlib.Core.List.{List}
 use mathlib.Core.Bool.{true, false}
@@ -7,16 +7,19 @@ use native.Mathlib.Omega.{arith}
 use borrow.Author.Tests.{leb-true, eqb-true, lt-leb}
 use lib.ListN.{length}
 use lib.Ieee.{Float}
-use Rattle.folds.specs.Fold.{pick-true, pick-false, both-true, both-first}
+use Rattle.folds.specs.Fold.{pick-true, pick-false, pick-keep, both-true, both-first}
 use Rattle.sizes.specs.Sizes as Sizes
+use Rattle.vector.specs.Laws.{length-div}
 use Rattle.units.specs.Units.{columnScales, unitsK, unitsC, unitsE, unitsB}
 use Rattle.segments.specs.declared.Segments.{Segments}
 use Rattle.slacks.specs.Slacks.{withSlacksQ, withSlacksE, withZeros, scalesWithSlacks, segmentsArray, slacksStart}
 use Rattle.iterate.specs.Problem.{problem}
 use Rattle.active.specs.Answer as Engine
-use Rattle.active.specs.Answer.{nonFinite, singular, unbounded, notConverged}
-use Rattle.active.specs.Active.{solvePiecewiseInUnits}
-use Rattle.piecewise.specs.Piecewise.{Quadratic, quadratic, original, solveScaled, solveWithSlacks, solve, sized, long, shaped, blank}
+use Rattle.active.specs.Answer.{optimal, nonFinite, singular, unbounded, notConverged}
+use Rattle.active.specs.Active.{budget, solvePiecewiseInUnits}
+use Rattle.active.specs.Laws as Active
+use Rattle.active.specs.Laws.{Filled, Within}
+use Rattle.piecewise.specs.Piecewise.{Quadratic, quadratic, restored, original, solveScaled, solveWithSlacks, solve, sized, long, shaped, blank}
 use Rattle.piecewise.specs.Piecewise.{Answer, wrongShape, blankBound, engine, solvePiecewise, number, xOr, multipliersOr, passesOr, Written}
 use Rattle.piecewise.specs.Holds.{Holds}
 
@@ -45,6 +48,34 @@ module _ (n m r : ℕ) (c e b lower upper a rowLower rowUpper at slopes start : 
       s ≡ solve (quadratic n m r q c e b lower upper a rowLower rowUpper at slopes start)
   unfolding solve
   solve-from q f g s = s ∙ rw (f, g)
+
+-- ---- an optimal answer has x's n entries and m + r multipliers, and its passes are from 1 to the budget
+module _ (n m r : ℕ) (e b a rowLower rowUpper scales columns : List Float) where
+  original-filled : (s : Engine.Answer) → Filled n (m + r) (original n m r e b a rowLower rowUpper scales columns s)
+  unfolding original restored
+  original-filled (optimal u multipliers passes) =
+      pick-keep (Filled n (m + r)) _ (length-div n u scales, length-div (m + r) multipliers columns) tt
+  original-filled nonFinite = tt
+  original-filled singular = tt
+  original-filled unbounded = tt
+  original-filled notConverged = tt
+
+  original-within : (budget : ℕ) (s : Engine.Answer) → Within budget s → Within budget (original n m r e b a rowLower rowUpper scales columns s)
+  unfolding original restored
+  original-within budget (optimal u multipliers passes) w = pick-keep (Within budget) _ w tt
+  original-within budget nonFinite w = tt
+  original-within budget singular w = tt
+  original-within budget unbounded w = tt
+  original-within budget notConverged w = tt
+
+module _ (n m r : ℕ) (q c e b lower upper a rowLower rowUpper at slopes start : List Float) where
+  pub solve-filled : Filled n (m + r) (solve (quadratic n m r q c e b lower upper a rowLower rowUpper at slopes start))
+  unfolding solve solveWithSlacks
+  solve-filled = original-filled n m r e b a rowLower rowUpper _ _ _
+
+  pub solve-within : Within (budget (n + r)) (solve (quadratic n m r q c e b lower upper a rowLower rowUpper at slopes start))
+  unfolding solve solveWithSlacks solveScaled
+  solve-within = original-within n m r e b a rowLower rowUpper _ _ (budget (n + r)) _ (Active.solve-within n (n + r) (m + r) _ _ _ _ _ _)
 
 -- ---- the tests of the sizes
 pub record Size (n m r q c e b a : ℕ) : Type 0 where
@@ -119,6 +150,7 @@ pub record Shape (n m r : ℕ) (q c e b lower upper a rowLower rowUpper at slope
   pub holds : Holds n m r c b lower upper a rowLower rowUpper at slopes start
   pub q-holds : n * n ≤ length q
   pub e-holds : n * m ≤ length e
+  pub start-long : length start ≡ n
   pub x-long : x ≡ n
   pub multipliers-long : multipliers ≡ m + r
 
@@ -149,6 +181,7 @@ shape n m r q c e b lower upper a rowLower rowUpper at slopes start x multiplier
           };
       q-holds = omega (arith, s .q-long);
       e-holds = omega (arith, s .e-long);
+      start-long = l .start-long;
       x-long = l .x-long;
       multipliers-long = l .multipliers-long;
     }

@@ -603,7 +603,7 @@ fn solve_large(
 }
 
 // The solve in work memory of its size.
-fn solve_shaped(
+pub fn solve_shaped(
     q: &[f64],
     c: &[f64],
     e: &[f64],
@@ -742,7 +742,7 @@ fn long(
     multipliers == m + r
 }
 
-fn shaped(
+pub fn shaped(
     q: &[f64],
     c: &[f64],
     e: &[f64],
@@ -786,7 +786,7 @@ fn shaped(
 }
 
 // Whether a bound of a variable or a row is NaN.
-fn blank(
+pub fn blank(
     lower: &[f64],
     upper: &[f64],
     row_lower: &[f64],

@@ -1,6 +1,7 @@
 // Runs the engine's calls on the cases of standard input again, in the format of docs/CASES.md, 'Engine calls', and compares number, passes and
 // every bit with the reference.
 use replay::BEFORE;
+use replay::Cursor;
 use replay::Floats;
 ghost use Prim.Native.Nat.{_≤_};
 ghost use lib.ListN.{length};
@@ -13,6 +14,8 @@ pub const BOUNDED: usize = 1;
 
 pub const PIECEWISE: usize = 2;
 
+pub const CAPPED: usize = 3;
+
 // The slice at a place, or none where the call has none there.
 fn slice_if(has: bool, s: &[u8], at: usize, y: &mut [f64]) -> Floats
     ensures { λ r. ⌜ r .count ≤ length (now (y .entry)) ⌝ }
@@ -23,22 +26,55 @@ fn slice_if(has: bool, s: &[u8], at: usize, y: &mut [f64]) -> Floats
     Floats { count: 0, at: at }
 }
 
-// What a call wrote, with the answer: x, the multipliers, the passes.
-fn compare_solved(s: &[u8], at: usize, x: &[f64], multipliers: &[f64], passes: u64) -> usize {
+// The float at a place, or, where the call has none there, the one that its number has before a call.
+fn float_if(has: bool, s: &[u8], at: usize) -> Cursor {
+    if has {
+        return replay::next(s, replay::start(at));
+    }
+    Cursor {
+        at: at,
+        last: BEFORE,
+        again: 0,
+    }
+}
+
+// What a call wrote, with the answer: x, the multipliers, the passes, and of the capped call the raise.
+fn compare_solved(
+    s: &[u8],
+    at: usize,
+    call: usize,
+    x: &[f64],
+    multipliers: &[f64],
+    passes: u64,
+    raise: f64,
+) -> usize {
     let compared = replay::compare_slices(s, at, x, multipliers);
     let counted = replay::one_if(replay::number32(s, compared.at) as u64 != passes);
-    let end = replay::one_if(replay::past(s, compared.at, 4) < s.len());
-    std::num::wrapping_add_usize(compared.differ, std::num::wrapping_add_usize(counted, end))
+    let raised = float_if(call == CAPPED, s, replay::past(s, compared.at, 4));
+    let end = replay::one_if(raised.at < s.len());
+    let numbers = std::num::wrapping_add_usize(counted, replay::differs(raised.last, raise));
+    std::num::wrapping_add_usize(compared.differ, std::num::wrapping_add_usize(numbers, end))
 }
 
-fn compare_refused(s: &[u8], at: usize, x: &[f64], multipliers: &[f64], passes: u64) -> usize {
+fn compare_refused(
+    s: &[u8],
+    at: usize,
+    x: &[f64],
+    multipliers: &[f64],
+    passes: u64,
+    raise: f64,
+) -> usize {
     let differ = replay::compare_refusal(s, at, x, multipliers);
-    std::num::wrapping_add_usize(differ, replay::one_if(passes != PASSES))
+    let numbers = std::num::wrapping_add_usize(
+        replay::one_if(passes != PASSES),
+        replay::differs(raise, BEFORE),
+    );
+    std::num::wrapping_add_usize(differ, numbers)
 }
 
-// The call, with kinks or without.
+// The call of a record's byte.
 fn solve(
-    kinked: bool,
+    call: usize,
     q: &[f64],
     c: &[f64],
     e: &[f64],
@@ -51,14 +87,40 @@ fn solve(
     at: &[f64],
     slopes: &[f64],
     start: &[f64],
+    cap: f64,
     n: usize,
     m: usize,
     r: usize,
     x: &mut [f64],
     multipliers: &mut [f64],
     passes: &mut u64,
+    raise: &mut f64,
 ) -> u32 {
-    if kinked {
+    if call == CAPPED {
+        return cap::solve_turnover_capped(
+            q,
+            c,
+            e,
+            b,
+            lower,
+            upper,
+            a,
+            row_lower,
+            row_upper,
+            at,
+            slopes,
+            start,
+            cap,
+            n,
+            m,
+            r,
+            x,
+            multipliers,
+            passes,
+            raise,
+        );
+    }
+    if call == PIECEWISE {
         return piecewise::solve_piecewise(
             q,
             c,
@@ -105,7 +167,7 @@ fn compare(
     s: &[u8],
     place: usize,
     outcome: usize,
-    kinked: bool,
+    call: usize,
     q: &[f64],
     c: &[f64],
     e: &[f64],
@@ -118,6 +180,7 @@ fn compare(
     at: &[f64],
     slopes: &[f64],
     start: &[f64],
+    cap: f64,
     n: usize,
     m: usize,
     r: usize,
@@ -125,8 +188,9 @@ fn compare(
     multipliers: &mut [f64],
 ) -> usize {
     let mut passes = PASSES;
+    let mut raise = BEFORE;
     let number = solve(
-        kinked,
+        call,
         q,
         c,
         e,
@@ -139,20 +203,22 @@ fn compare(
         at,
         slopes,
         start,
+        cap,
         n,
         m,
         r,
         x,
         multipliers,
         &mut passes,
+        &mut raise,
     );
     if number as usize != outcome {
         return 1;
     }
     if outcome == 0 {
-        return compare_solved(s, place, &x[..], &multipliers[..], passes);
+        return compare_solved(s, place, call, &x[..], &multipliers[..], passes, raise);
     }
-    compare_refused(s, place, &x[..], &multipliers[..], passes)
+    compare_refused(s, place, &x[..], &multipliers[..], passes, raise)
 }
 
 // A record's outcome, and how many numbers differ.
@@ -165,7 +231,7 @@ struct Replayed {
 fn run_kinks(
     s: &[u8],
     kinks: usize,
-    kinked: bool,
+    call: usize,
     q: &[f64],
     c: &[f64],
     e: &[f64],
@@ -181,11 +247,12 @@ fn run_kinks(
     let mut start = [0.0; 1152];
     let mut x = [BEFORE; 255];
     let mut multipliers = [BEFORE; 510];
-    let first = slice_if(kinked, s, kinks, &mut at);
-    let second = slice_if(kinked, s, first.at, &mut slopes);
+    let first = slice_if(call != BOUNDED, s, kinks, &mut at);
+    let second = slice_if(call != BOUNDED, s, first.at, &mut slopes);
     let third = replay::slice(s, second.at, &mut start);
-    let outcome = replay::byte(s, third.at);
-    let place = replay::past(s, third.at, 1);
+    let cap = float_if(call == CAPPED, s, third.at);
+    let outcome = replay::byte(s, cap.at);
+    let place = replay::past(s, cap.at, 1);
     let n = replay::byte(s, 1);
     let m = replay::byte(s, 2);
     let r = replay::byte(s, 3);
@@ -197,7 +264,7 @@ fn run_kinks(
         s,
         place,
         outcome,
-        kinked,
+        call,
         q,
         c,
         e,
@@ -210,6 +277,7 @@ fn run_kinks(
         &at[..i],
         &slopes[..j],
         &start[..k],
+        cap.last,
         n,
         m,
         r,
@@ -226,7 +294,7 @@ fn run_kinks(
 fn run_bounds(
     s: &[u8],
     bounds: usize,
-    kinked: bool,
+    call: usize,
     q: &[f64],
     c: &[f64],
     e: &[f64],
@@ -250,7 +318,7 @@ fn run_bounds(
     run_kinks(
         s,
         fifth.at,
-        kinked,
+        call,
         q,
         c,
         e,
@@ -276,15 +344,7 @@ fn run(s: &[u8], call: usize) -> Replayed {
     let j = second.count;
     let k = third.count;
     let l = fourth.count;
-    let mut replayed = run_bounds(
-        s,
-        fourth.at,
-        call == PIECEWISE,
-        &q[..i],
-        &c[..j],
-        &e[..k],
-        &b[..l],
-    );
+    let mut replayed = run_bounds(s, fourth.at, call, &q[..i], &c[..j], &e[..k], &b[..l]);
     replayed.differ = std::num::wrapping_add_usize(
         replayed.differ,
         replay::one_if(replay::byte(s, 0) != call),

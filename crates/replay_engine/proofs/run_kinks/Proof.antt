@@ -15,6 +15,7 @@ run-kinks-spec =
     (λ c κs. search needs)  -- slice-if-requires-2
     (λ c. search needs)  -- slice-aggregate-slice
     (λ c κs. search needs)  -- slice-requires
+    (λ c κs. search needs)  -- float-if-requires
     (λ c κs. search needs)  -- byte-requires
     (λ c κs. search needs)  -- past-requires
     (λ c κs. search needs)  -- byte-requires-2

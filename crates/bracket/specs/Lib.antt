@@ -1,0 +1,4 @@
+pub mod Bracket
+pub mod Ends
+pub mod Laws
+pub mod Sized

@@ -1,0 +1,504 @@
+// qp.rs, `search_multiplier`: the doubling, until `high` is within the limit, and the cuts of the bracket. Neither loop counts: each ends because
+// fewer floats are left. Q is n by n, E is n by m, the rows' a is n by r; at are the kinks' points, slopes their slopes.
+ghost use mathlib.Core.Path.{_≡_};
+ghost use Prim.Native.Nat.{ℕ, _≤_, _+_};
+ghost use lib.ListN.{length, take};
+ghost use Rattle.sizes.specs.Sizes as Sizes;
+ghost use Rattle.active.specs.Answer.{answer, answerOf};
+ghost use Rattle.bracket.specs.Bracket.{bracketOf};
+ghost use Rattle.bracket.specs.Ends.{Rising};
+ghost use Rattle.multiplier.specs.Ready.{Ready};
+ghost use Rattle.multiplier.specs.Search.{problem, Gives, steppedOf, endedOf};
+ghost use Rattle.multiplier.specs.Search as Definition;
+use active::Answer;
+use active::Verdict;
+use bracket::Bracket;
+
+const MAX: f64 = 1.7976931348623157e308;
+
+// What a step of the search gives: the next bracket where there are more, and else the verdict, with the bracket that it is found in where it is
+// Optimal.
+pub struct Stepped {
+    pub more: bool,
+    pub verdict: Verdict,
+    pub bracket: Bracket,
+}
+
+fn more(bracket: Bracket) -> Stepped
+    ensures { λ r. ⌜ Gives r bracket Definition.goes ⌝ }
+{
+    Stepped {
+        more: true,
+        verdict: Verdict::Optimal,
+        bracket: bracket,
+    }
+}
+
+fn ended(verdict: Verdict, bracket: Bracket) -> Stepped
+    ensures { λ r. ⌜ Gives r bracket (Definition.ends verdict) ⌝ }
+{
+    Stepped {
+        more: false,
+        verdict: verdict,
+        bracket: bracket,
+    }
+}
+
+// The optimum with every slope raised by `extra`, from a warm start.
+pub fn solve_raised(
+    q: &[f64],
+    c: &[f64],
+    e: &[f64],
+    b: &[f64],
+    lower: &[f64],
+    upper: &[f64],
+    a: &[f64],
+    row_lower: &[f64],
+    row_upper: &[f64],
+    at: &[f64],
+    slopes: &[f64],
+    extra: f64,
+    warm: [f64; sizes::VARIABLES],
+    n: usize,
+    m: usize,
+    r: usize,
+) -> Answer
+    requires { ⌜ Ready n m r (now q) (now c) (now e) (now b) (now lower) (now upper) (now a) (now «row_lower»)
+        (now «row_upper») (now at) (now slopes) ⌝ }
+    ensures { λ s. ⌜ answerOf n (m + r) s
+        ≡ Definition.solve (problem n m r (now (q .entry)) (now (c .entry)) (now (e .entry)) (now (b .entry)) (now (lower .entry))
+        (now (upper .entry)) (now (a .entry)) (now («row_lower» .entry)) (now («row_upper» .entry)) (now (at .entry)) (now (slopes .entry)))
+        extra (take n warm) ⌝ }
+{
+    let mut raised = [0.0; sizes::ORIGINALS];
+    vector::add_scalar(slopes, n, extra, &mut raised);
+    piecewise::solve_shaped(
+        q,
+        c,
+        e,
+        b,
+        lower,
+        upper,
+        a,
+        row_lower,
+        row_upper,
+        at,
+        &raised[..n],
+        &warm[..n],
+        n,
+        m,
+        r,
+    )
+}
+
+// ---- the doubling
+// `high` is past the limit: on to twice it.
+fn double_on(bracket: Bracket) -> Stepped
+    ensures { λ r. ⌜ Gives r bracket Definition.doubleOn ⌝ }
+{
+    if bracket.high > MAX / 2.0 {
+        return ended(Verdict::NotConverged, bracket);
+    }
+    more(bracket.double())
+}
+
+// What the solve at `high` answered. An objective with no minimum runs off past any limit; any other error is the arithmetic breaking down.
+fn double_by(
+    bracket: Bracket,
+    verdict: Verdict,
+    x: [f64; sizes::VARIABLES],
+    multipliers: [f64; sizes::COLUMNS],
+    passes: usize,
+    at: &[f64],
+    limit: f64,
+    n: usize,
+) -> Stepped
+    requires { ⌜ (n ≤ Sizes.originals) × (n ≤ length (now at)) ⌝ }
+    ensures { λ r. ⌜ ((w : ℕ) → steppedOf n w r
+        ≡ Definition.doubleBy n (now (at .entry)) limit (bracketOf n w bracket) (answer verdict (take n x) (take w multipliers) passes)) ⌝ }
+{
+    match verdict {
+        Verdict::Optimal => {
+            let value = turnover::turnover(&x[..n], at, n);
+            if turnover::within(value, limit, &x[..n], n) {
+                let best = bracket.accept(bracket.high, value, x, multipliers, passes);
+                return ended(Verdict::Optimal, best);
+            }
+            let past = bracket.exceed(bracket.high, value);
+            double_on(past.warmed(x))
+        }
+        Verdict::Unbounded => double_on(bracket.exceed(bracket.high, arith::infinity())),
+        Verdict::NonFiniteCovariance => ended(Verdict::NotConverged, bracket),
+        Verdict::SingularCovariance => ended(Verdict::NotConverged, bracket),
+        Verdict::NotConverged => ended(Verdict::NotConverged, bracket),
+    }
+}
+
+fn double_step(
+    bracket: Bracket,
+    q: &[f64],
+    c: &[f64],
+    e: &[f64],
+    b: &[f64],
+    lower: &[f64],
+    upper: &[f64],
+    a: &[f64],
+    row_lower: &[f64],
+    row_upper: &[f64],
+    at: &[f64],
+    slopes: &[f64],
+    limit: f64,
+    n: usize,
+    m: usize,
+    r: usize,
+) -> Stepped
+    requires { ⌜ Ready n m r (now q) (now c) (now e) (now b) (now lower) (now upper) (now a) (now «row_lower»)
+        (now «row_upper») (now at) (now slopes) ⌝ }
+    ensures { λ t. ⌜ steppedOf n (m + r) t
+        ≡ Definition.doubleStep (problem n m r (now (q .entry)) (now (c .entry)) (now (e .entry)) (now (b .entry)) (now (lower .entry))
+        (now (upper .entry)) (now (a .entry)) (now («row_lower» .entry)) (now («row_upper» .entry)) (now (at .entry)) (now (slopes .entry)))
+        limit (bracketOf n (m + r) bracket) ⌝ }
+{
+    let warm = bracket.warm;
+    let s = solve_raised(
+        q,
+        c,
+        e,
+        b,
+        lower,
+        upper,
+        a,
+        row_lower,
+        row_upper,
+        at,
+        slopes,
+        bracket.high,
+        warm,
+        n,
+        m,
+        r,
+    );
+    let verdict = s.verdict;
+    let x = s.x;
+    let multipliers = s.multipliers;
+    double_by(bracket, verdict, x, multipliers, s.passes, at, limit, n)
+}
+
+// Doubles until `high` is within the limit.
+fn reach(
+    bracket: Bracket,
+    q: &[f64],
+    c: &[f64],
+    e: &[f64],
+    b: &[f64],
+    lower: &[f64],
+    upper: &[f64],
+    a: &[f64],
+    row_lower: &[f64],
+    row_upper: &[f64],
+    at: &[f64],
+    slopes: &[f64],
+    limit: f64,
+    n: usize,
+    m: usize,
+    r: usize,
+) -> Stepped
+    requires { ⌜ Ready n m r (now q) (now c) (now e) (now b) (now lower) (now upper) (now a) (now «row_lower»)
+        (now «row_upper») (now at) (now slopes)
+        × Rising bracket ⌝ }
+    ensures { λ t. ⌜ endedOf n (m + r) t
+        ≡ Definition.reached (problem n m r (now (q .entry)) (now (c .entry)) (now (e .entry)) (now (b .entry)) (now (lower .entry))
+        (now (upper .entry)) (now (a .entry)) (now («row_lower» .entry)) (now («row_upper» .entry)) (now (at .entry)) (now (slopes .entry)))
+        limit (bracketOf n (m + r) bracket) ⌝ }
+{
+    let mut t = bracket;
+    loop {
+        let s = double_step(
+            t,
+            q,
+            c,
+            e,
+            b,
+            lower,
+            upper,
+            a,
+            row_lower,
+            row_upper,
+            at,
+            slopes,
+            limit,
+            n,
+            m,
+            r,
+        );
+        if s.more {
+            t = s.bracket;
+        } else {
+            return s;
+        }
+    }
+}
+
+// ---- the cuts
+// What the solve at the middle answered.
+fn cut_by(
+    bracket: Bracket,
+    verdict: Verdict,
+    x: [f64; sizes::VARIABLES],
+    multipliers: [f64; sizes::COLUMNS],
+    passes: usize,
+    at: &[f64],
+    limit: f64,
+    n: usize,
+) -> Stepped
+    requires { ⌜ (n ≤ Sizes.originals) × (n ≤ length (now at)) ⌝ }
+    ensures { λ r. ⌜ ((w : ℕ) → steppedOf n w r
+        ≡ Definition.cutBy n (now (at .entry)) limit (bracketOf n w bracket) (answer verdict (take n x) (take w multipliers) passes)) ⌝ }
+{
+    match verdict {
+        Verdict::Optimal => {
+            let value = turnover::turnover(&x[..n], at, n);
+            if turnover::within(value, limit, &x[..n], n) {
+                return more(bracket.accept(bracket.middle, value, x, multipliers, passes));
+            }
+            more(bracket.exceed(bracket.middle, value))
+        }
+        Verdict::Unbounded => more(bracket.exceed(bracket.middle, arith::infinity())),
+        Verdict::NonFiniteCovariance => ended(Verdict::NonFiniteCovariance, bracket),
+        Verdict::SingularCovariance => ended(Verdict::SingularCovariance, bracket),
+        Verdict::NotConverged => ended(Verdict::NotConverged, bracket),
+    }
+}
+
+fn cut_at(
+    bracket: Bracket,
+    q: &[f64],
+    c: &[f64],
+    e: &[f64],
+    b: &[f64],
+    lower: &[f64],
+    upper: &[f64],
+    a: &[f64],
+    row_lower: &[f64],
+    row_upper: &[f64],
+    at: &[f64],
+    slopes: &[f64],
+    limit: f64,
+    n: usize,
+    m: usize,
+    r: usize,
+) -> Stepped
+    requires { ⌜ Ready n m r (now q) (now c) (now e) (now b) (now lower) (now upper) (now a) (now «row_lower»)
+        (now «row_upper») (now at) (now slopes) ⌝ }
+    ensures { λ t. ⌜ steppedOf n (m + r) t
+        ≡ Definition.cutAt (problem n m r (now (q .entry)) (now (c .entry)) (now (e .entry)) (now (b .entry)) (now (lower .entry))
+        (now (upper .entry)) (now (a .entry)) (now («row_lower» .entry)) (now («row_upper» .entry)) (now (at .entry)) (now (slopes .entry)))
+        limit (bracketOf n (m + r) bracket) ⌝ }
+{
+    let best = bracket.best;
+    let s = solve_raised(
+        q,
+        c,
+        e,
+        b,
+        lower,
+        upper,
+        a,
+        row_lower,
+        row_upper,
+        at,
+        slopes,
+        bracket.middle,
+        best,
+        n,
+        m,
+        r,
+    );
+    let verdict = s.verdict;
+    let x = s.x;
+    let multipliers = s.multipliers;
+    cut_by(bracket, verdict, x, multipliers, s.passes, at, limit, n)
+}
+
+fn cut_step(
+    bracket: Bracket,
+    q: &[f64],
+    c: &[f64],
+    e: &[f64],
+    b: &[f64],
+    lower: &[f64],
+    upper: &[f64],
+    a: &[f64],
+    row_lower: &[f64],
+    row_upper: &[f64],
+    at: &[f64],
+    slopes: &[f64],
+    limit: f64,
+    n: usize,
+    m: usize,
+    r: usize,
+) -> Stepped
+    requires { ⌜ Ready n m r (now q) (now c) (now e) (now b) (now lower) (now upper) (now a) (now «row_lower»)
+        (now «row_upper») (now at) (now slopes) ⌝ }
+    ensures { λ t. ⌜ steppedOf n (m + r) t
+        ≡ Definition.cutStep (problem n m r (now (q .entry)) (now (c .entry)) (now (e .entry)) (now (b .entry)) (now (lower .entry))
+        (now (upper .entry)) (now (a .entry)) (now («row_lower» .entry)) (now («row_upper» .entry)) (now (at .entry)) (now (slopes .entry)))
+        limit (bracketOf n (m + r) bracket) ⌝ }
+{
+    let best = bracket.best;
+    if turnover::reaches(bracket.high_value, limit, &best[..n], n) {
+        return ended(Verdict::Optimal, bracket);
+    }
+    let next = bracket.cut(limit);
+    if next.closed() {
+        return ended(Verdict::Optimal, bracket);
+    }
+    cut_at(
+        next,
+        q,
+        c,
+        e,
+        b,
+        lower,
+        upper,
+        a,
+        row_lower,
+        row_upper,
+        at,
+        slopes,
+        limit,
+        n,
+        m,
+        r,
+    )
+}
+
+// Cuts until the best solution reaches the limit, or no float lies between the ends.
+fn narrow(
+    bracket: Bracket,
+    q: &[f64],
+    c: &[f64],
+    e: &[f64],
+    b: &[f64],
+    lower: &[f64],
+    upper: &[f64],
+    a: &[f64],
+    row_lower: &[f64],
+    row_upper: &[f64],
+    at: &[f64],
+    slopes: &[f64],
+    limit: f64,
+    n: usize,
+    m: usize,
+    r: usize,
+) -> Stepped
+    requires { ⌜ Ready n m r (now q) (now c) (now e) (now b) (now lower) (now upper) (now a) (now «row_lower»)
+        (now «row_upper») (now at) (now slopes)
+        × Rising bracket ⌝ }
+    ensures { λ t. ⌜ endedOf n (m + r) t
+        ≡ Definition.narrowed (problem n m r (now (q .entry)) (now (c .entry)) (now (e .entry)) (now (b .entry)) (now (lower .entry))
+        (now (upper .entry)) (now (a .entry)) (now («row_lower» .entry)) (now («row_upper» .entry)) (now (at .entry)) (now (slopes .entry)))
+        limit (bracketOf n (m + r) bracket) ⌝ }
+{
+    let mut t = bracket;
+    loop {
+        let s = cut_step(
+            t,
+            q,
+            c,
+            e,
+            b,
+            lower,
+            upper,
+            a,
+            row_lower,
+            row_upper,
+            at,
+            slopes,
+            limit,
+            n,
+            m,
+            r,
+        );
+        if s.more {
+            t = s.bracket;
+        } else {
+            return s;
+        }
+    }
+}
+
+// ---- the search
+pub fn reach_and_narrow(
+    bracket: Bracket,
+    q: &[f64],
+    c: &[f64],
+    e: &[f64],
+    b: &[f64],
+    lower: &[f64],
+    upper: &[f64],
+    a: &[f64],
+    row_lower: &[f64],
+    row_upper: &[f64],
+    at: &[f64],
+    slopes: &[f64],
+    limit: f64,
+    n: usize,
+    m: usize,
+    r: usize,
+) -> Stepped
+    requires { ⌜ Ready n m r (now q) (now c) (now e) (now b) (now lower) (now upper) (now a) (now «row_lower»)
+        (now «row_upper») (now at) (now slopes)
+        × Rising bracket ⌝ }
+    ensures { λ t. ⌜ endedOf n (m + r) t
+        ≡ Definition.reachAndNarrow (problem n m r (now (q .entry)) (now (c .entry)) (now (e .entry)) (now (b .entry)) (now (lower .entry))
+        (now (upper .entry)) (now (a .entry)) (now («row_lower» .entry)) (now («row_upper» .entry)) (now (at .entry)) (now (slopes .entry)))
+        limit (bracketOf n (m + r) bracket) ⌝ }
+{
+    let s = reach(
+        bracket,
+        q,
+        c,
+        e,
+        b,
+        lower,
+        upper,
+        a,
+        row_lower,
+        row_upper,
+        at,
+        slopes,
+        limit,
+        n,
+        m,
+        r,
+    );
+    let verdict = s.verdict;
+    match verdict {
+        Verdict::Optimal => {
+            let t = s.bracket;
+            narrow(
+                t,
+                q,
+                c,
+                e,
+                b,
+                lower,
+                upper,
+                a,
+                row_lower,
+                row_upper,
+                at,
+                slopes,
+                limit,
+                n,
+                m,
+                r,
+            )
+        }
+        Verdict::NonFiniteCovariance => s,
+        Verdict::SingularCovariance => s,
+        Verdict::Unbounded => s,
+        Verdict::NotConverged => s,
+    }
+}
