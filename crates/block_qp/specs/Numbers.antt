@@ -1,0 +1,26 @@
+-- Which number of a word or a span a loop takes, as the code names it.
+use Prim.Native.Nat.{ℕ}
+use lib.IntN.{ℤ}
+use Rattle.ints.specs.Bound.{_≼_}
+use Rattle.block.specs.Block.{Span, Word}
+use Rattle.block.specs.Ranges.{RangedSpan}
+use Rattle.block_qp.specs.declared.WordNumber.{WordNumber}
+use Rattle.block_qp.specs.declared.WordNumber.the-variants.{Key, Slope, Lower, Upper, Start}
+use Rattle.block_qp.specs.declared.SpanEnd.{SpanEnd}
+use Rattle.block_qp.specs.declared.SpanEnd.the-variants as End
+
+unfoldable pub numberOf : WordNumber → Word → ℕ
+numberOf Key w = w .key
+numberOf Slope w = w .slope
+numberOf Lower w = w .lower
+numberOf Upper w = w .upper
+numberOf Start w = w .start
+
+unfoldable pub endOf : SpanEnd → Span → ℤ
+endOf End.Lower s = s .lower
+endOf End.Upper s = s .upper
+
+pub end-b : (which : SpanEnd) {n : ℕ} {s : Span} → RangedSpan n s → endOf which s ≼ 8388608
+unfolding endOf
+end-b End.Lower r = record { size = r .lower }
+end-b End.Upper r = record { size = r .upper }
