@@ -8,42 +8,45 @@ use lib.ListN.{length}
 use Rattle.folds.specs.Run.{more, done, run, run-all, run-more, run-done, run-spent}
 use Rattle.segments.specs.declared.Segments.{Segments}
 use Rattle.iterate.specs.Problem.{Problem, problem, Room}
-use Rattle.iterate.specs.Iterate.{passedOf}
 use Rattle.iterate.specs.declared.Iterate.{Iterate}
-use Rattle.iterate.specs.declared.Passed.{Passed}
-use Rattle.pass.specs.Pass.{pass}
+use Rattle.factoring.specs.declared.Factoring.{Factoring}
+use Rattle.factoring.specs.Kept.{new}
+use Rattle.pass.specs.declared.Made.{Made}
+use Rattle.pass.specs.Pass.{State, state, madeOf, pass}
 use Rattle.active.specs.declared.Answer as Declared
 use Rattle.active.specs.declared.Verdict.the-variants.{NotConverged}
 use Rattle.active.specs.Answer.{Answer, answerOf}
 use Rattle.active.specs.Active.{counted, step, goesOn, Ends, spent, budget, passes}
 use Rattle.active.specs.Laws.{counted-more, answerOf-notConverged}
 
-unfoldable pub Left : Problem → (segments : List Segments) (fixed : List Bool) (qAmax linear : Float) (made : ℕ) (i : Iterate) → Answer
-Left (problem originals n m q c e b) segments fixed qAmax linear made i =
-    run (step (problem originals n m q c e b) segments fixed qAmax linear) spent (budget n - made) made (more i)
+unfoldable pub Left : Problem → (segments : List Segments) (fixed : List Bool) (qAmax linear : Float) (made : ℕ) (s : State) → Answer
+Left (problem originals n m q c e b) segments fixed qAmax linear made s =
+    run (step (problem originals n m q c e b) segments fixed qAmax linear) spent (budget n - made) made (more s)
 
 module _ (originals n m : ℕ) (q c e b : List Float) (segments : List Segments) (fixed : List Bool) (qAmax linear : Float) where
   abbrev p : Problem
   p = problem originals n m q c e b
 
-  pub all-left : (i : Iterate) → Left p segments fixed qAmax linear 0 i ≡ passes p segments fixed qAmax linear i
+  pub all-left : {f : Factoring} (i : Iterate) (l : List Float) → f ≡ new →
+      Left p segments fixed qAmax linear 0 (state i f l) ≡ passes p segments fixed qAmax linear i l
   unfolding Left passes
-  all-left i = run-all _ _ (budget n) i
+  all-left i l e = rw e (run-all _ _ (budget n) (state i new l))
 
-  module _ (i : Iterate) (made : ℕ) {r : Answer} (left : Left p segments fixed qAmax linear made i ≡ r) where
+  module _ (s : State) (made : ℕ) {r : Answer} (left : Left p segments fixed qAmax linear made s ≡ r) where
     pub all-spent : (a : Declared.Answer) → budget n ≤ made → a .verdict ≡ NotConverged → answerOf n m a ≡ r
     unfolding Left
-    all-spent a h v = answerOf-notConverged n m a v ∙ run-spent _ _ (budget n) made i h ∙ left
+    all-spent a h v = answerOf-notConverged n m a v ∙ run-spent _ _ (budget n) made s h ∙ left
 
     -- after a pass
-    module _ (s : Passed) (under : made < budget n) (gave : passedOf n m s ≡ pass p segments fixed qAmax linear i) where
-      pub again : goesOn (s .ending) ≡ true → Left p segments fixed qAmax linear (made + 1) (s .iterate) ≡ r
-      unfolding Left step
-      again g = run-more _ _ (budget n) made i (s .iterate) under (rw (← gave) (counted-more s (made + 1) n m g)) ∙ left
+    module _ (t : Made) (l : List Float) (under : made < budget n) (gave : madeOf n m t l ≡ pass p segments fixed qAmax linear s) where
+      pub again : goesOn (t .passed .ending) ≡ true →
+          Left p segments fixed qAmax linear (made + 1) (state (t .passed .iterate) (t .factoring) l) ≡ r
+      unfolding Left step madeOf
+      again g = run-more _ _ (budget n) made s _ under (rw (← gave) (counted-more (t .passed) (made + 1) n m (t .factoring) l g)) ∙ left
 
-      pub ended : (a : Declared.Answer) → Ends s (made + 1) a → answerOf n m a ≡ r
-      unfolding Left step
-      ended a f = run-done _ _ (budget n) made i under (rw (← gave) (f n m)) ∙ left
+      pub ended : (a : Declared.Answer) → Ends (t .passed) (made + 1) a → answerOf n m a ≡ r
+      unfolding Left step madeOf
+      ended a f = run-done _ _ (budget n) made s under (rw (← gave) (f n m (t .factoring) l)) ∙ left
 
 -- ---- work memory of the same lengths
 pub same-room : {originals n m : ℕ} {room qFree eFree gram ks es left coefficients range qq null h vectors

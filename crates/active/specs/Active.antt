@@ -10,8 +10,9 @@ use Rattle.folds.specs.Run.{Pass, more, done, run}
 use Rattle.sizes.specs.Sizes as Sizes
 use Rattle.arith.specs.Float.{f0}
 use Rattle.arith.specs.Scalar.{max}
-use Rattle.vector.specs.Vector.{amax}
-use Rattle.factoring.specs.Kept as Factoring
+use Rattle.vector.specs.Vector.{amax, filled}
+use Rattle.factoring.specs.Kept.{new}
+use Rattle.factoring.specs.declared.Factoring.{Factoring}
 use Rattle.segments.specs.Start.{allFixed, allHeld, allPlaced, first, slopeAmax}
 use Rattle.segments.specs.declared.Segments.{Segments}
 use Rattle.blocking.specs.declared.Released.the-variants.{NoOne}
@@ -22,21 +23,21 @@ use Rattle.iterate.specs.declared.Iterate.{Iterate}
 use Rattle.iterate.specs.declared.Ending.{Ending}
 use Rattle.iterate.specs.declared.Ending.the-variants as Ending
 use Rattle.iterate.specs.declared.Passed.{Passed}
-use Rattle.pass.specs.Pass.{pass}
+use Rattle.pass.specs.Pass.{State, state, beside, pass}
 use Rattle.active.specs.declared.Answer as Declared
 use Rattle.active.specs.Answer.{Answer, optimal, nonFinite, singular, unbounded, notConverged, answerOf}
 
 -- ---- a pass, as one of the run's: `continue`, or the answer with the number of passes made
-unfoldable pub counted : (passes : ℕ) → Pass Iterate Result → Pass Iterate Answer
-counted passes (more i) = more i
+unfoldable pub counted : (passes : ℕ) → Pass State Result → Pass State Answer
+counted passes (more s) = more s
 counted passes (done (Result.optimal x multipliers)) = done (optimal x multipliers passes)
 counted passes (done Result.nonFinite) = done nonFinite
 counted passes (done Result.singular) = done singular
 counted passes (done Result.unbounded) = done unbounded
 counted passes (done Result.notConverged) = done notConverged
 
-unfoldable pub step : Problem → (segments : List Segments) (fixed : List Bool) (qAmax linear : Float) (made : ℕ) (i : Iterate) → Pass Iterate Answer
-step p segments fixed qAmax linear made i = counted (made + 1) (pass p segments fixed qAmax linear i)
+unfoldable pub step : Problem → (segments : List Segments) (fixed : List Bool) (qAmax linear : Float) (made : ℕ) (s : State) → Pass State Answer
+step p segments fixed qAmax linear made s = counted (made + 1) (pass p segments fixed qAmax linear s)
 
 -- whether a pass goes on
 unfoldable pub goesOn : Ending → Bool
@@ -47,11 +48,12 @@ goesOn Ending.SingularCovariance = false
 goesOn Ending.Unbounded = false
 goesOn Ending.NotConverged = false
 
--- the answer of a pass that doesn't
+-- the answer of a pass that doesn't, whatever it leaves of the factor
 abbrev pub Ends : Passed → (passes : ℕ) → Declared.Answer → Type 0
-Ends passed passes r = (n m : ℕ) → counted passes (passedOf n m passed) ≡ done (answerOf n m r)
+Ends passed passes r =
+    (n m : ℕ) (f : Factoring) (l : List Float) → counted passes (beside f l (passedOf n m passed)) ≡ done (answerOf n m r)
 
--- ---- where the passes start: the start held to its range, each variable's first state, no variable refused or released, and no factor
+-- ---- where the passes start: the start held to its range, each variable's first state, no variable refused or released
 unfoldable pub started : (n : ℕ) (segments : List Segments) (start : List Float) → Iterate
 started n segments start =
     let x = over (allHeld n segments start) (replicate Sizes.variables f0) in
@@ -65,7 +67,6 @@ started n segments start =
       released = NoOne;
       freed = false;
       «freed_at» = replicate Sizes.variables f0;
-      factoring = Factoring.new;
     }
 
 -- `for _ in 0..100 + 20 * n`
@@ -73,15 +74,16 @@ abbrev pub budget : ℕ → ℕ
 budget n = 100 + 20 * n
 
 -- `Err(CutupError::NotConverged)`
-abbrev pub spent : (made : ℕ) (i : Iterate) → Answer
-spent made i = notConverged
+abbrev pub spent : (made : ℕ) (s : State) → Answer
+spent made s = notConverged
 
-unfoldable pub passes : Problem → (segments : List Segments) (fixed : List Bool) (qAmax linear : Float) (i : Iterate) → Answer
-passes (problem originals n m q c e b) segments fixed qAmax linear i =
-    run (step (problem originals n m q c e b) segments fixed qAmax linear) spent (budget n) 0 (more i)
+-- with no factor yet, which is to stand over the start of l
+unfoldable pub passes : Problem → (segments : List Segments) (fixed : List Bool) (qAmax linear : Float) (i : Iterate) (l : List Float) → Answer
+passes (problem originals n m q c e b) segments fixed qAmax linear i l =
+    run (step (problem originals n m q c e b) segments fixed qAmax linear) spent (budget n) 0 (more (state i new l))
 
 -- ---- `solve_piecewise_in_units`
 unfoldable pub solvePiecewiseInUnits : Problem → (segments : List Segments) (start : List Float) → Answer
 solvePiecewiseInUnits (problem originals n m q c e b) segments start =
     passes (problem originals n m q c e b) segments (allFixed n segments) (amax (n * n) q) (max (amax n c) (slopeAmax n segments))
-    (started n segments start)
+    (started n segments start) (filled (originals * originals) f0)

@@ -13,8 +13,10 @@ use Rattle.folds.specs.Run as Run
 use Rattle.folds.specs.Run.{Pass, more, done, run}
 use Rattle.folds.specs.Tab.{length-tab}
 use Rattle.arith.specs.Scalar.{max}
-use Rattle.vector.specs.Vector.{amax}
-use Rattle.factoring.specs.Laws.{good-new}
+use Rattle.arith.specs.Float.{f0}
+use Rattle.vector.specs.Vector.{amax, filled}
+use Rattle.factoring.specs.declared.Factoring.{Factoring}
+use Rattle.factoring.specs.Kept.{new}
 use Rattle.segments.specs.Segments.{AllCut}
 use Rattle.segments.specs.Start.{allFixed, slopeAmax}
 use Rattle.segments.specs.Laws.{all-placed}
@@ -27,7 +29,7 @@ use Rattle.iterate.specs.declared.Iterate.{Iterate}
 use Rattle.iterate.specs.declared.Ending.{Ending}
 use Rattle.iterate.specs.declared.Ending.the-variants as Ending
 use Rattle.iterate.specs.declared.Passed.{Passed}
-use Rattle.pass.specs.Pass.{pass}
+use Rattle.pass.specs.Pass.{State, state, beside, pass}
 use Rattle.active.specs.declared.Verdict.{Verdict}
 use Rattle.active.specs.declared.Verdict.the-variants.{Optimal, NonFiniteCovariance, SingularCovariance, Unbounded, NotConverged}
 use Rattle.active.specs.declared.Answer as Declared
@@ -91,53 +93,52 @@ unfolding goesOn
 more-goes e m h = false-true (sym (rw m at h))
 
 module _ (p : Passed) (passes : ℕ) where
-  pub counted-more : (n m : ℕ) → goesOn (p .ending) ≡ true → counted passes (passedOf n m p) ≡ more (p .iterate)
-  unfolding counted
-  counted-more n m h = rw (passed-more n m p (goes-more (p .ending) h))
+  pub counted-more : (n m : ℕ) (f : Factoring) (l : List Float) → goesOn (p .ending) ≡ true →
+      counted passes (beside f l (passedOf n m p)) ≡ more (state (p .iterate) f l)
+  unfolding counted beside
+  counted-more n m f l h = rw (passed-more n m p (goes-more (p .ending) h))
 
   pub ends-optimal : p .ending ≡ Ending.Optimal →
       Ends p passes (record { verdict = Optimal; x = p .iterate .board .x; multipliers = p .multipliers; passes = passes })
-  unfolding counted
-  ends-optimal e n m =
+  unfolding counted beside
+  ends-optimal e n m f l =
       let r : Declared.Answer = record { verdict = Optimal; x = p .iterate .board .x; multipliers = p .multipliers; passes = passes } in
       rw (passed-optimal n m p e, answerOf-optimal n m r refl)
 
   module _ (r : Declared.Answer) where
     pub ends-nonFinite : p .ending ≡ Ending.NonFiniteCovariance → r .verdict ≡ NonFiniteCovariance → Ends p passes r
-    unfolding counted
-    ends-nonFinite e v n m = rw (passed-nonFinite n m p e, answerOf-nonFinite n m r v)
+    unfolding counted beside
+    ends-nonFinite e v n m f l = rw (passed-nonFinite n m p e, answerOf-nonFinite n m r v)
 
     pub ends-singular : p .ending ≡ Ending.SingularCovariance → r .verdict ≡ SingularCovariance → Ends p passes r
-    unfolding counted
-    ends-singular e v n m = rw (passed-singular n m p e, answerOf-singular n m r v)
+    unfolding counted beside
+    ends-singular e v n m f l = rw (passed-singular n m p e, answerOf-singular n m r v)
 
     pub ends-unbounded : p .ending ≡ Ending.Unbounded → r .verdict ≡ Unbounded → Ends p passes r
-    unfolding counted
-    ends-unbounded e v n m = rw (passed-unbounded n m p e, answerOf-unbounded n m r v)
+    unfolding counted beside
+    ends-unbounded e v n m f l = rw (passed-unbounded n m p e, answerOf-unbounded n m r v)
 
     pub ends-notConverged : p .ending ≡ Ending.NotConverged → r .verdict ≡ NotConverged → Ends p passes r
-    unfolding counted
-    ends-notConverged e v n m = rw (passed-notConverged n m p e, answerOf-notConverged n m r v)
+    unfolding counted beside
+    ends-notConverged e v n m f l = rw (passed-notConverged n m p e, answerOf-notConverged n m r v)
 
 -- ---- where the passes start
-pub started-kept : (originals n : ℕ) (segments : List Segments) (start : List Float) → AllCut n segments →
-    Kept originals n segments (started n segments start)
+pub started-kept : (n : ℕ) (segments : List Segments) (start : List Float) → AllCut n segments → Kept n segments (started n segments start)
 unfolding started
-started-kept originals n segments start cut =
-    record { placed = all-placed n segments _ _ _ cut refl; factor = good-new originals }
+started-kept n segments start cut = record { placed = all-placed n segments _ _ _ cut refl }
 
 -- ---- what the calls leave, put together
 pub length-allFixed : (n : ℕ) (segments : List Segments) → length (allFixed n segments) ≡ n
 unfolding allFixed
 length-allFixed n segments = length-tab n _
 
-pub units-from : {r : Answer} {fixed : List Bool} {qAmax linear cAmax slopes : Float} {i : Iterate} (originals n m : ℕ) (q c e b : List Float)
+pub units-from : {r : Answer} {fixed : List Bool} {qAmax linear cAmax slopes : Float} {i : Iterate} {l : List Float} (originals n m : ℕ) (q c e b : List Float)
     (segments : List Segments) (start : List Float) → fixed ≡ allFixed n segments → qAmax ≡ amax (n * n) q → cAmax ≡ amax n c →
-    slopes ≡ slopeAmax n segments → linear ≡ max cAmax slopes → i ≡ started n segments start →
-    r ≡ passes (problem originals n m q c e b) segments fixed qAmax linear i →
+    slopes ≡ slopeAmax n segments → linear ≡ max cAmax slopes → i ≡ started n segments start → l ≡ filled (originals * originals) f0 →
+    r ≡ passes (problem originals n m q c e b) segments fixed qAmax linear i l →
     r ≡ solvePiecewiseInUnits (problem originals n m q c e b) segments start
 unfolding solvePiecewiseInUnits
-units-from originals n m q c e b segments start f g h k l s r = r ∙ rw (s, l, h, k, g, f)
+units-from originals n m q c e b segments start f g h k l s z r = r ∙ rw (s, z, l, h, k, g, f)
 
 -- ---- the number of passes is from 1 to the budget
 abbrev pub Within : (budget : ℕ) → Answer → Type 0
@@ -148,30 +149,31 @@ Within budget unbounded = Unit {0}
 Within budget notConverged = Unit {0}
 
 module _ (p : Problem) (segments : List Segments) (fixed : List Bool) (qAmax linear : Float) (limit : ℕ) where
-  counted-within : (made : ℕ) (r : Pass Iterate Result) → made < limit → Run.Kept (λ _. Unit {0}) (Within limit) (counted (made + 1) r)
+  counted-within : (made : ℕ) (r : Pass State Result) → made < limit → Run.Kept (λ _. Unit {0}) (Within limit) (counted (made + 1) r)
   unfolding counted Run.Kept
-  counted-within made (more i) h = tt
+  counted-within made (more s) h = tt
   counted-within made (done (Result.optimal x multipliers)) h = (omega arith, omega arith)
   counted-within made (done Result.nonFinite) h = tt
   counted-within made (done Result.singular) h = tt
   counted-within made (done Result.unbounded) h = tt
   counted-within made (done Result.notConverged) h = tt
 
-  run-within : (left made : ℕ) (r : Pass Iterate Answer) → left + made ≤ limit → Run.Kept (λ _. Unit {0}) (Within limit) r →
+  run-within : (left made : ℕ) (r : Pass State Answer) → left + made ≤ limit → Run.Kept (λ _. Unit {0}) (Within limit) r →
       Within limit (run (step p segments fixed qAmax linear) spent left made r)
   unfolding run step Run.Kept
   run-within zero made (done a) h k = k
-  run-within zero made (more i) h k = tt
+  run-within zero made (more s) h k = tt
   run-within (suc left) made (done a) h k = k
-  run-within (suc left) made (more i) h k =
-      run-within left (made + 1) (counted (made + 1) (pass p segments fixed qAmax linear i)) (omega arith)
-      (counted-within made (pass p segments fixed qAmax linear i) (omega arith))
+  run-within (suc left) made (more s) h k =
+      run-within left (made + 1) (counted (made + 1) (pass p segments fixed qAmax linear s)) (omega arith)
+      (counted-within made (pass p segments fixed qAmax linear s) (omega arith))
 
 pub solve-within : (originals n m : ℕ) (q c e b : List Float) (segments : List Segments) (start : List Float) →
     Within (budget n) (solvePiecewiseInUnits (problem originals n m q c e b) segments start)
 unfolding solvePiecewiseInUnits passes Run.Kept
 solve-within originals n m q c e b segments start =
-    run-within (problem originals n m q c e b) segments _ _ _ (budget n) (budget n) 0 (more (started n segments start)) (omega arith) tt
+    run-within (problem originals n m q c e b) segments _ _ _ (budget n) (budget n) 0
+    (more (state (started n segments start) new (filled (originals * originals) f0))) (omega arith) tt
 
 -- ---- an optimal answer has x's n entries and m multipliers
 abbrev pub Filled : (n m : ℕ) → Answer → Type 0

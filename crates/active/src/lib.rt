@@ -2,9 +2,11 @@
 // on are slacks, each with one of the last columns of E.
 ghost use mathlib.Core.Path.{_≡_};
 ghost use mathlib.Core.Bool.{false};
-ghost use Prim.Native.Nat.{_≤_};
+ghost use Prim.Native.Nat.{_≤_, _*_};
 ghost use lib.ListN.{length};
 ghost use Rattle.sizes.specs.Sizes as Sizes;
+ghost use Rattle.arith.specs.Float.{f0};
+ghost use Rattle.vector.specs.Vector.{filled};
 ghost use Rattle.segments.specs.Segments.{AllCut};
 ghost use Rattle.iterate.specs.Problem.{problem, Shaped, Room};
 ghost use Rattle.iterate.specs.Iterate.{Kept};
@@ -57,13 +59,11 @@ fn started(segments: [Segments; sizes::VARIABLES], n: usize, start: &[f64]) -> I
         refused: [false; sizes::VARIABLES],
     };
     let released = Released::NoOne;
-    let factoring = Factoring::new();
     Iterate {
         board: board,
         released: released,
         freed: false,
         freed_at: [0.0; sizes::VARIABLES],
-        factoring: factoring,
     }
 }
 
@@ -105,7 +105,8 @@ fn answered(passed: Passed, passes: usize) -> Answer
     }
 }
 
-// The passes from `iterate` on, until one of them ends or the budget is spent. The slices from room on are work memory.
+// The passes from `iterate` on, until one of them ends or the budget is spent. The slices from room on are work memory, but l, which holds the
+// kept factor.
 fn passes(
     iterate: Iterate,
     segments: [Segments; sizes::VARIABLES],
@@ -132,21 +133,25 @@ fn passes(
     null: &mut [f64],
     h: &mut [f64],
     vectors: &mut [f64],
+    l: &mut [f64],
 ) -> Answer
     requires { ⌜ Shaped originals n m (now q) (now c) (now e) (now b)
         × AllCut n segments
-        × Kept originals n segments iterate
+        × Kept n segments iterate
         × (length (now fixed) ≡ n)
         × Room originals n m (now room) (now «q_free») (now «e_free») (now gram) (now ks) (now es) (now left) (now coefficients) (now range)
-        (now qq) (now null) (now h) (now vectors) ⌝ }
+        (now qq) (now null) (now h) (now vectors)
+        × (originals * originals ≤ length (now l)) ⌝ }
     ensures { λ r. ⌜ answerOf n m r
         ≡ Definition.passes (problem originals n m (now (q .entry)) (now (c .entry)) (now (e .entry)) (now (b .entry))) segments
-        (now (fixed .entry)) «q_amax» linear iterate ⌝ }
+        (now (fixed .entry)) «q_amax» linear iterate (now (l .entry)) ⌝ }
 {
     let mut at = iterate;
+    let mut factoring = Factoring::new();
     for made in 0..100 + 20 * n {
-        let passed = pass::pass(
+        let step = pass::pass(
             at,
+            factoring,
             segments,
             fixed,
             q,
@@ -171,10 +176,13 @@ fn passes(
             null,
             h,
             vectors,
+            l,
         );
+        let passed = step.passed;
         let ending = passed.ending;
         if goes_on(ending) {
             at = passed.iterate;
+            factoring = step.factoring;
         } else {
             return answered(passed, made + 1);
         }
@@ -205,12 +213,14 @@ pub fn solve_piecewise_in_units(
     null: &mut [f64],
     h: &mut [f64],
     vectors: &mut [f64],
+    l: &mut [f64],
 ) -> Answer
     requires { ⌜ Shaped originals n m (now q) (now c) (now e) (now b)
         × AllCut n segments
         × (n ≤ length (now start))
         × Room originals n m (now room) (now «q_free») (now «e_free») (now gram) (now ks) (now es) (now left) (now coefficients) (now range)
-        (now qq) (now null) (now h) (now vectors) ⌝ }
+        (now qq) (now null) (now h) (now vectors)
+        × (now l ≡ filled (originals * originals) f0) ⌝ }
     ensures { λ r. ⌜ answerOf n m r
         ≡ Definition.solvePiecewiseInUnits (problem originals n m (now (q .entry)) (now (c .entry)) (now (e .entry)) (now (b .entry))) segments
         (now (start .entry)) ⌝ }
@@ -245,5 +255,6 @@ pub fn solve_piecewise_in_units(
         null,
         h,
         vectors,
+        l,
     )
 }

@@ -27,7 +27,7 @@ use Rattle.stepping.specs.Stepping.{moveAlong, settle, samePoint}
 use Rattle.releasing.specs.Release as Releasing
 use Rattle.releasing.specs.declared.Outcome.{Outcome}
 use Rattle.releasing.specs.declared.Outcome.the-variants.{Enter, Answer, NotConverged}
-use Rattle.iterate.specs.Iterate.{Result, optimal, notConverged, passedOf, Kept}
+use Rattle.iterate.specs.Iterate.{Result, optimal, notConverged, passedOf}
 use Rattle.iterate.specs.declared.Iterate.{Iterate}
 use Rattle.iterate.specs.declared.Passed.{Passed}
 
@@ -40,12 +40,9 @@ pub record Shape (originals n m : ℕ) (q c e : List Float) : Type 0 where
   pub c-holds : n ≤ length c
   pub e-holds : n * m ≤ length e
 
--- what the code leaves, whatever the number of columns, and what it keeps, whatever the number of originals
+-- what the code leaves, whatever the number of columns
 abbrev pub Gives : (n : ℕ) (r : Passed) → Pass Iterate Result → Type 0
 Gives n r p = (m : ℕ) → passedOf n m r ≡ p
-
-abbrev pub Keeps : (n : ℕ) (segments : List Segments) → Iterate → (r : Passed) → Type 0
-Keeps n segments i r = (originals : ℕ) → Kept originals n segments i → Kept originals n segments (r .iterate)
 
 -- ---- `if solved.is_empty()`
 -- `fixed[..originals].iter().all(|&f| f)`
@@ -64,7 +61,6 @@ freeEverything n segments fixed i =
       released = i .released;
       freed = true;
       «freed_at» = i .board .x;
-      factoring = i .factoring;
     }
 
 -- `return Ok(x)`, `return Err(CutupError::NotConverged)`, or `continue`
@@ -81,8 +77,7 @@ WithoutFree originals n segments fixed i r = (m : ℕ) → m ≤ Sizes.columns �
 -- ---- a block
 -- another point with its active set
 unfoldable pub withBoard : Iterate → Board → Released → Iterate
-withBoard i board released =
-    record { board = board; released = released; freed = i .freed; «freed_at» = i .«freed_at»; factoring = i .factoring }
+withBoard i board released = record { board = board; released = released; freed = i .freed; «freed_at» = i .«freed_at» }
 
 -- `for k in 0..indices.len() { x[indices[k]] = (x_free[k] + step * direction[k]).clamp(lower[k], upper[k]); }`, and `block(..)` of the variable at k
 unfoldable pub stopped : (n : ℕ) (segments : List Segments) (indices : List ℕ) (xFree direction lower upper : List Float) (step : Float) (k : ℕ) →

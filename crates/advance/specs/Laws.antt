@@ -67,13 +67,12 @@ unfolding entered
 entered-placed n segments i segment board l h placed = set-placed n segments (board .state) i (Free segment) l h placed
 
 -- ---- what every pass keeps
-pub board-kept : (originals n : ℕ) (segments : List Segments) (i : Iterate) (board : Board) (released : Released) → AllPlaced n segments (board .state) →
-    Kept originals n segments i → Kept originals n segments (withBoard i board released)
+pub board-kept : (n : ℕ) (segments : List Segments) (i : Iterate) (board : Board) (released : Released) → AllPlaced n segments (board .state) →
+    Kept n segments (withBoard i board released)
 unfolding withBoard
-board-kept originals n segments i board released placed kept = record { placed = placed; factor = kept .factor }
+board-kept n segments i board released placed = record { placed = placed }
 
-pub everything-kept : (originals n : ℕ) (segments : List Segments) (fixed : List Bool) (i : Iterate) → AllCut n segments →
-    Kept originals n segments i → Kept originals n segments (freeEverything n segments fixed i)
+pub everything-kept : (n : ℕ) (segments : List Segments) (fixed : List Bool) (i : Iterate) → AllCut n segments → Kept n segments i →
+    Kept n segments (freeEverything n segments fixed i)
 unfolding freeEverything
-everything-kept originals n segments fixed i cut kept =
-    record { placed = free-all-placed n segments fixed (i .board .state) cut (kept .placed); factor = kept .factor }
+everything-kept n segments fixed i cut kept = record { placed = free-all-placed n segments fixed (i .board .state) cut (kept .placed) }

@@ -82,9 +82,9 @@ pub fn without_free(
         × (n ≤ Sizes.variables)
         × (n ≤ length (now fixed))
         × AllCut n segments
-        × Kept originals n segments iterate ⌝ }
+        × Kept n segments iterate ⌝ }
     ensures { λ r. ⌜ Advance.WithoutFree originals n segments (now (fixed .entry)) iterate r ⌝ }
-    ensures { λ r. ⌜ Kept originals n segments (r .iterate) ⌝ }
+    ensures { λ r. ⌜ Kept n segments (r .iterate) ⌝ }
 {
     if all_true(fixed, originals) {
         return iterate::ended(Ending::Optimal, iterate);
@@ -103,13 +103,11 @@ fn with_board(iterate: Iterate, board: Board, released: Released) -> Iterate
     ensures { λ r. ⌜ r ≡ Advance.withBoard iterate board released ⌝ }
 {
     let freed_at = iterate.freed_at;
-    let factoring = iterate.factoring;
     Iterate {
         board: board,
         released: released,
         freed: iterate.freed,
         freed_at: freed_at,
-        factoring: factoring,
     }
 }
 
@@ -171,7 +169,7 @@ pub fn blocked(
         (Advance.blocked iterate
         (Advance.stopped n segments (now (indices .entry)) (now («x_free» .entry)) (now (direction .entry)) (now (lower .entry)) (now (upper .entry))
         step k side (iterate .released) (iterate .board))) ⌝ }
-    ensures { λ r. ⌜ Advance.Keeps n segments iterate r ⌝ }
+    ensures { λ r. ⌜ Kept n segments (r .iterate) ⌝ }
 {
     let board = iterate.board;
     let released = iterate.released;
@@ -311,13 +309,13 @@ pub fn decided(
     requires { ⌜ Shape originals n m (now q) (now c) (now e)
         × AllCut n segments
         × AllPlaced n segments (board .state)
-        × Kept originals n segments iterate
+        × Kept n segments iterate
         × (n ≤ length (now fixed)) ⌝ }
     ensures { λ r. ⌜ passedOf n m r
         ≡ Advance.decided n iterate board (take m multipliers)
         (Advance.release originals n m (now (q .entry)) (now (c .entry)) (now (e .entry)) segments (now (fixed .entry)) «q_amax» linear
         (take m multipliers) board) ⌝ }
-    ensures { λ r. ⌜ Kept originals n segments (r .iterate) ⌝ }
+    ensures { λ r. ⌜ Kept n segments (r .iterate) ⌝ }
 {
     let released = iterate.released;
     let outcome = release(

@@ -1,5 +1,5 @@
 -- qp.rs, `Factoring`: a Cholesky factor of Q's block on the free variables, kept from one iteration to the next, and the last set whose block was
--- singular. Q is n by n. `Option` is a mark beside what it holds.
+-- singular. Q is n by n. `Option` is a mark beside what it holds; the factor itself stands over the start of a list of its own.
 use Prim.Native.Nat.{ℕ, _≤_}
 use mathlib.Core.Path.{_≡_}
 use mathlib.Core.Bool.{Bool, true, false}
@@ -9,7 +9,6 @@ use lib.Ieee.{Float}
 use Rattle.folds.specs.Fold.{all, over, pick, both, Out, out}
 use Rattle.folds.specs.Marks.{contains}
 use Rattle.sizes.specs.Sizes as Sizes
-use Rattle.arith.specs.Float.{f0}
 use Rattle.matrix.specs.Matrix.{selectRows, selectColumns, index}
 use Rattle.triangular.specs.Triangular.{cholesky, positiveDefinite}
 use Rattle.triangular.specs.Pivots.{Sounds}
@@ -24,22 +23,26 @@ listOf s = take (s .count) (s .list)
 unfoldable pub toVec : List ℕ → Listed
 toVec indices = record { list = over indices (replicate Sizes.originals 0); count = length indices }
 
+-- the marks and the lists, and the factor
+pub data Factor : Type 0 where
+  factor : Factoring → (l : List Float) → Factor
+
 -- ---- `Factoring::new`, `reset`
 unfoldable pub new : Factoring
 new =
     let none : Listed = record { list = replicate Sizes.originals 0; count = 0 } in
-    record { factored = false; held = none; factor = replicate 1024 f0; failed = false; singular = none }
+    record { factored = false; held = none; failed = false; singular = none }
 
 unfoldable pub reset : Factoring → Factoring
-reset f = record { factored = false; held = f .held; factor = f .factor; failed = f .failed; singular = f .singular }
+reset f = record { factored = false; held = f .held; failed = f .failed; singular = f .singular }
 
 -- `self.factor.insert((indices.to_vec(), factor))`
-unfoldable pub withFactor : (indices : List ℕ) (l : List Float) → Factoring → Factoring
-withFactor indices l f = record { factored = true; held = toVec indices; factor = l; failed = f .failed; singular = f .singular }
+unfoldable pub withFactor : (indices : List ℕ) → Factoring → Factoring
+withFactor indices f = record { factored = true; held = toVec indices; failed = f .failed; singular = f .singular }
 
 -- `self.singular = Some(indices.to_vec()); return None;`
 unfoldable pub withSingular : (indices : List ℕ) → Factoring → Factoring
-withSingular indices f = record { factored = false; held = f .held; factor = f .factor; failed = true; singular = toVec indices }
+withSingular indices f = record { factored = false; held = f .held; failed = true; singular = toVec indices }
 
 -- ---- afresh
 -- `q.select_rows(indices).select_columns(indices)`
@@ -59,9 +62,9 @@ unfoldable pub fresh : (q : List Float) (n : ℕ) (indices : List ℕ) (l : List
 fresh q n indices l = definite (length indices) (over (block q n indices) l)
 
 -- `let Some(cholesky) = .. else { self.singular = Some(indices.to_vec()); return None; }`
-unfoldable pub kept : (indices : List ℕ) → Factoring → Out (List Float) → Factoring
-kept indices f (out true l) = withFactor indices l f
-kept indices f (out false l) = withSingular indices f
+unfoldable pub kept : (indices : List ℕ) → Factoring → Out (List Float) → Factor
+kept indices f (out true l) = factor (withFactor indices f) l
+kept indices f (out false l) = factor (withSingular indices f) l
 
 -- `s.iter().all(|i| indices.binary_search(i).is_ok())`
 unfoldable pub containsAll : (indices s : List ℕ) → Bool
@@ -71,9 +74,9 @@ containsAll indices s = all (length s) (λ t. contains indices (index s t))
 unfoldable pub containsSingular : (indices : List ℕ) (failed : Bool) (singular : Listed) → Bool
 containsSingular indices failed singular = both failed (containsAll indices (listOf singular))
 
-unfoldable pub afresh : (q : List Float) (n : ℕ) (indices : List ℕ) → Factoring → Factoring
-afresh q n indices f =
-    pick (containsSingular indices (f .failed) (f .singular)) (reset f) (kept indices f (fresh q n indices (replicate 1024 f0)))
+unfoldable pub afresh : (q : List Float) (n : ℕ) (indices : List ℕ) → Factoring → (l : List Float) → Factor
+afresh q n indices f l =
+    pick (containsSingular indices (f .failed) (f .singular)) (factor (reset f) l) (kept indices f (fresh q n indices l))
 
 -- ---- `update`
 -- `self.factor.take().and_then(|(held, cholesky)| updated(q, held, cholesky, indices))`
@@ -81,19 +84,19 @@ unfoldable pub lastUpdated : (q : List Float) (n : ℕ) (indices : List ℕ) (fa
 lastUpdated q n indices factored held l = pick factored (updated q n (listOf held) l indices) (out false l)
 
 -- `match updated`: `factored` says afterwards whether `update` gives a factor
-unfoldable pub settled : (q : List Float) (n : ℕ) (indices : List ℕ) → Factoring → Out (List Float) → Factoring
-settled q n indices f (out true l) = withFactor indices l f
-settled q n indices f (out false l) = afresh q n indices f
+unfoldable pub settled : (q : List Float) (n : ℕ) (indices : List ℕ) → Factoring → Out (List Float) → Factor
+settled q n indices f (out true l) = factor (withFactor indices f) l
+settled q n indices f (out false l) = afresh q n indices f l
 
-unfoldable pub update : (q : List Float) (n : ℕ) (indices : List ℕ) → Factoring → Factoring
-update q n indices f = settled q n indices f (lastUpdated q n indices (f .factored) (f .held) (f .factor))
+unfoldable pub update : (q : List Float) (n : ℕ) (indices : List ℕ) → Factoring → (l : List Float) → Factor
+update q n indices f l = settled q n indices f (lastUpdated q n indices (f .factored) (f .held) l)
 
 -- ---- what every call keeps: the lists are rising and below o, and the pivots of a factor pass the floor or are NaN
 pub record Fitting (o : ℕ) (s : Listed) : Type 0 where
   pub fits : s .count ≤ Sizes.originals
   pub rises : Rising o (listOf s)
 
-pub record Good (o : ℕ) (f : Factoring) : Type 0 where
+pub record Good (o : ℕ) (f : Factoring) (l : List Float) : Type 0 where
   pub held : Fitting o (f .held)
   pub singular : Fitting o (f .singular)
-  pub sound : f .factored ≡ true → Sounds (length (listOf (f .held))) (f .factor)
+  pub sound : f .factored ≡ true → Sounds (length (listOf (f .held))) l

@@ -1,5 +1,5 @@
 // qp.rs, `Factoring`, by value: the factor of Q's block on the free variables, kept from one iteration to the next.
-// Q is n by n; only its first `originals` variables are listed, in rising order.
+// Q is n by n; only its first `originals` variables are listed, in rising order. The factor itself is lent, as l, and stands over its start.
 ghost use mathlib.Core.Path.{_≡_};
 ghost use Prim.Native.Nat.{_≤_, _*_};
 ghost use lib.ListN.{length};
@@ -8,10 +8,8 @@ ghost use Rattle.sizes.specs.Sizes as Sizes;
 ghost use Rattle.vector.specs.Vector.{Below};
 ghost use Rattle.factor.specs.Factor.{Rising};
 ghost use Rattle.factor.specs.Room.{Block, Room};
+ghost use Rattle.factoring.specs.Kept.{factor};
 ghost use Rattle.factoring.specs.Kept as Kept;
-
-// The entries of a factor of all originals.
-pub const ENTRIES: usize = sizes::ORIGINALS * sizes::ORIGINALS;
 
 // A list of variables: the first `count` of the array.
 pub struct Listed {
@@ -20,10 +18,9 @@ pub struct Listed {
 }
 
 pub struct Factoring {
-    // Whether there is a factor, its variables, and the factor of their block.
+    // Whether there is a factor, and the variables of its block.
     pub factored: bool,
     pub held: Listed,
-    pub factor: [f64; ENTRIES],
     // Whether a block was singular, or nearly so, and the variables of the last.
     pub failed: bool,
     pub singular: Listed,
@@ -134,7 +131,6 @@ impl Factoring {
         Factoring {
             factored: false,
             held: none,
-            factor: [0.0; ENTRIES],
             failed: false,
             singular: none,
         }
@@ -149,14 +145,13 @@ impl Factoring {
         f
     }
 
-    fn with_factor(self, indices: &[usize], l: [f64; ENTRIES]) -> Self
+    fn with_factor(self, indices: &[usize]) -> Self
         requires { ⌜ length (now indices) ≤ Sizes.originals ⌝ }
-        ensures { λ r. ⌜ r ≡ Kept.withFactor (now (indices .entry)) l self ⌝ }
+        ensures { λ r. ⌜ r ≡ Kept.withFactor (now (indices .entry)) self ⌝ }
     {
         let mut f = self;
         f.factored = true;
         f.held = to_vec(indices);
-        f.factor = l;
         f
     }
 
@@ -178,21 +173,22 @@ impl Factoring {
         n: usize,
         originals: usize,
         indices: &[usize],
+        l: &mut [f64],
         room: &mut [f64],
     ) -> Self
         requires { ⌜ Block n originals (now q)
             × Rising originals (now indices)
-            × Kept.Good originals self
+            × Kept.Fitting originals (self .singular)
+            × (originals * originals ≤ length (now l))
             × (originals * n ≤ length (now room)) ⌝ }
-        ensures { λ r. ⌜ r ≡ Kept.afresh (now (q .entry)) n (now (indices .entry)) self ⌝ }
+        ensures { λ r. ⌜ factor r (now (l .exit)) ≡ Kept.afresh (now (q .entry)) n (now (indices .entry)) self (now (l .entry)) ⌝ }
     {
         let singular = self.singular;
         if contains_singular(self.failed, singular, originals, indices) {
             return self.reset();
         }
-        let mut l = [0.0; ENTRIES];
-        if fresh(q, n, indices, &mut l, room) {
-            return self.with_factor(indices, l);
+        if fresh(q, n, indices, l, room) {
+            return self.with_factor(indices);
         }
         self.with_singular(indices)
     }
@@ -205,20 +201,21 @@ impl Factoring {
         n: usize,
         originals: usize,
         indices: &[usize],
+        l: &mut [f64],
         room: &mut [f64],
     ) -> Self
         requires { ⌜ Block n originals (now q)
             × Rising originals (now indices)
-            × Kept.Good originals self
+            × Kept.Good originals self (now l)
+            × (originals * originals ≤ length (now l))
             × (originals * n ≤ length (now room)) ⌝ }
-        ensures { λ r. ⌜ r ≡ Kept.update (now (q .entry)) n (now (indices .entry)) self ⌝ }
-        ensures { λ r. ⌜ Kept.Good originals r ⌝ }
+        ensures { λ r. ⌜ factor r (now (l .exit)) ≡ Kept.update (now (q .entry)) n (now (indices .entry)) self (now (l .entry)) ⌝ }
+        ensures { λ r. ⌜ Kept.Good originals r (now (l .exit)) ⌝ }
     {
-        let mut l = self.factor;
         let held = self.held;
-        if last_updated(self.factored, held, q, n, originals, indices, &mut l, room) {
-            return self.with_factor(indices, l);
+        if last_updated(self.factored, held, q, n, originals, indices, l, room) {
+            return self.with_factor(indices);
         }
-        self.afresh(q, n, originals, indices, room)
+        self.afresh(q, n, originals, indices, l, room)
     }
 }

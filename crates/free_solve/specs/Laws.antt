@@ -11,8 +11,8 @@ use Rattle.folds.specs.Fold.{pick}
 use Rattle.sizes.specs.Sizes as Sizes
 use Rattle.factor.specs.Factor.{Rising}
 use Rattle.factoring.specs.declared.Factoring.{Factoring}
-use Rattle.factoring.specs.Kept.{Good, reset, update}
-use Rattle.factoring.specs.Laws.{good-reset, good-update, update-regular}
+use Rattle.factoring.specs.Kept.{Factor, factor, Good, reset, update}
+use Rattle.factoring.specs.Laws.{good-reset, update-good, update-regular}
 use Rattle.scaled.specs.System.{System}
 use Rattle.factored.specs.declared.Found.{Found}
 use Rattle.factored.specs.Factored.{Answer, some, none, foundOf}
@@ -35,7 +35,7 @@ optimum-of {y} {l} NoOptimum e = absurd (let z : _≡_ {A = ℕ} 0 1 = cc (answe
 optimum-of {y} {l} NonFiniteCovariance e = absurd (let z : _≡_ {A = ℕ} 0 1 = cc (answer-nonFinite y l) in omega arith)
 optimum-of {y} {l} SingularCovariance e = absurd (let z : _≡_ {A = ℕ} 0 1 = cc (answer-singular y l) in omega arith)
 
-module _ (k m : ℕ) (r : Result.Solved) (s : Solution) (e : solutionOf k m r ≡ s) where
+module _ (k m : ℕ) (r : Result.Solved) (l : List Float) (s : Solution) (e : solutionOf k m r l ≡ s) where
   pub left-answer : s .answer ≡ answer (r .verdict) (take k (r .x)) (take m (r .multipliers))
   unfolding solutionOf
   left-answer = ap (λ (z : Solution). z .answer) (sym e)
@@ -44,8 +44,12 @@ module _ (k m : ℕ) (r : Result.Solved) (s : Solution) (e : solutionOf k m r �
   unfolding solutionOf
   left-factoring = ap (λ (z : Solution). z .factoring) (sym e)
 
-  pub good-left : (o : ℕ) → Good o (s .factoring) → Good o (r .factoring)
-  good-left o g = rw left-factoring at g
+  pub left-factor : s .factor ≡ l
+  unfolding solutionOf
+  left-factor = ap (λ (z : Solution). z .factor) (sym e)
+
+  pub good-left : (o : ℕ) → Good o (s .factoring) (s .factor) → Good o (r .factoring) l
+  good-left o g = rw (left-factoring, left-factor) at g
 
   -- by its verdict
   pub left-solved : r .verdict ≡ Solved → s .answer ≡ optimum (take k (r .x)) (take m (r .multipliers))
@@ -68,45 +72,48 @@ module _ (k m : ℕ) (r : Result.Solved) (s : Solution) (e : solutionOf k m r �
       (sym (ap length (o .0)) ∙ length-take-le k (r .x) g, sym (ap length (o .1)) ∙ length-take-le m (r .multipliers) h)
 
 -- ---- what the calls give
-module _ (f : Factoring) (s : System) (noise : Float) (k m : ℕ) where
+module _ (f : Factoring) (l : List Float) (s : System) (noise : Float) (k m : ℕ) where
   pub otherwise-from : {d : Factoring} (t : Noisy.Solution) → Kkt.solutionOf k m t ≡ solveNoisyKkt s noise → d ≡ reset f →
-      solutionOf k m (record { verdict = t .verdict; x = t .x; multipliers = t .multipliers; factoring = d }) ≡ otherwise f s noise
+      solutionOf k m (record { verdict = t .verdict; x = t .x; multipliers = t .multipliers; factoring = d }) l ≡ otherwise f l s noise
   unfolding solutionOf otherwise
   otherwise-from t a g = rw (← solution-answer k m t, a, g)
 
-  module _ (g : Found) (e : foundOf k m g ≡ fromFactor (f .factored) (f .factor) s noise) where
+  module _ (g : Found) (e : foundOf k m g ≡ fromFactor (f .factored) l s noise) where
     -- by whether the factored solve found an optimum
     pub after-found : g .found ≡ true →
-        solutionOf k m (record { verdict = Solved; x = g .x; multipliers = g .multipliers; factoring = f }) ≡ afterUpdate f s noise
+        solutionOf k m (record { verdict = Solved; x = g .x; multipliers = g .multipliers; factoring = f }) l ≡ afterUpdate (factor f l) s noise
     unfolding solutionOf afterUpdate matched pick
     after-found t = rw (← e, found-is k m g, t, answer-solved (take k (g .x)) (take m (g .multipliers)))
 
-    pub after-missed : {r : Solution} → g .found ≡ false → r ≡ otherwise f s noise → r ≡ afterUpdate f s noise
+    pub after-missed : {r : Solution} → g .found ≡ false → r ≡ otherwise f l s noise → r ≡ afterUpdate (factor f l) s noise
     unfolding afterUpdate matched pick
     after-missed t h = h ∙ rw (← e, found-is k m g, t)
 
-pub free-from : {u : Factoring} {r : Solution} (q : List Float) (n : ℕ) (solved : List ℕ) (s : System) (noise : Float) (f : Factoring) →
-    u ≡ update q n solved f → r ≡ afterUpdate u s noise → r ≡ solveFree q n solved s noise f
+pub free-from : {u : Factor} {r : Solution} (q : List Float) (n : ℕ) (solved : List ℕ) (s : System) (noise : Float) (f : Factoring) (l : List Float) →
+    u ≡ update q n solved f l → r ≡ afterUpdate u s noise → r ≡ solveFree q n solved s noise f l
 unfolding solveFree
-free-from q n solved s noise f e h = h ∙ rw e
+free-from q n solved s noise f l e h = h ∙ rw e
 
 -- ---- every solve keeps `Good`
 module _ (o : ℕ) where
-  good-matched : (f : Factoring) (s : System) (noise : Float) (a : Answer) → Good o f → Good o (matched f s noise a .factoring)
+  abbrev Kept : Solution → Type 0
+  Kept r = Good o (r .factoring) (r .factor)
+
+  good-matched : (f : Factoring) (l : List Float) (s : System) (noise : Float) (a : Answer) → Good o f l → Kept (matched f l s noise a)
   unfolding matched otherwise
-  good-matched f s noise (some x multipliers) g = g
-  good-matched f s noise none g = good-reset o f g
+  good-matched f l s noise (some x multipliers) g = g
+  good-matched f l s noise none g = good-reset o f l g
 
-  good-after : (f : Factoring) (s : System) (noise : Float) → Good o f → Good o (afterUpdate f s noise .factoring)
+  good-after : (f : Factoring) (l : List Float) (s : System) (noise : Float) → Good o f l → Kept (afterUpdate (factor f l) s noise)
   unfolding afterUpdate
-  good-after f s noise g = good-matched f s noise (fromFactor (f .factored) (f .factor) s noise) g
+  good-after f l s noise g = good-matched f l s noise (fromFactor (f .factored) l s noise) g
 
-  module _ (few : o ≤ Sizes.originals) (q : List Float) (n : ℕ) (solved : List ℕ) (f : Factoring) (r : Rising o solved) (g : Good o f) where
-    pub good-solve : (s : System) (noise : Float) → Good o (solveFree q n solved s noise f .factoring)
+  module _ (few : o ≤ Sizes.originals) (q : List Float) (n : ℕ) (solved : List ℕ) (f : Factoring) (l : List Float) (r : Rising o solved)
+      (g : Good o f l) {u : Factoring} {m : List Float} (e : factor u m ≡ update q n solved f l) where
+    pub good-solve : (s : System) (noise : Float) → Kept (solveFree q n solved s noise f l)
     unfolding solveFree
-    good-solve s noise = good-after (update q n solved f) s noise (good-update o few q n solved f r g)
+    good-solve s noise = rw (← e) (good-after u m s noise (update-good o few q n solved f l r g e))
 
     -- a factor that `update` gives may be divided by
-    pub regular-from : {u : Factoring} → u ≡ update q n solved f → length solved * length solved ≤ length (u .factor) →
-        Regular (length solved) (u .factored) (u .factor)
-    regular-from e h = record { holds = h; diagonal = λ t. rw e (update-regular o few q n solved f r g (rw e at t)) }
+    pub regular-from : length solved * length solved ≤ length m → Regular (length solved) (u .factored) m
+    regular-from h = record { holds = h; diagonal = update-regular o few q n solved f l r g e }

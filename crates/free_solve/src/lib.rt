@@ -6,7 +6,7 @@ ghost use lib.ListN.{length};
 ghost use Rattle.scaled.specs.System.{Sized, system};
 ghost use Rattle.factor.specs.Factor.{Rising};
 ghost use Rattle.factor.specs.Room.{Block};
-ghost use Rattle.factoring.specs.Kept.{Good};
+ghost use Rattle.factoring.specs.Kept.{factor, Good};
 ghost use Rattle.factored.specs.Factored.{foundOf};
 ghost use Rattle.noisy_kkt.specs.Room.{Squares, Tall};
 ghost use Rattle.free_solve.specs.Workspace.{Regular, Workspace};
@@ -80,8 +80,7 @@ fn otherwise(
         × (n * m ≤ length (now es))
         × Tall n m (now left) (now coefficients) (now range)
         × Squares n (now q) (now null) (now h) (now vectors) ⌝ }
-    ensures { λ r. ⌜ Definition.solutionOf n m r
-        ≡ Definition.otherwise factoring (system n m (now (k .entry)) (now (c .entry)) (now (e .entry)) (now (b .entry))) noise ⌝ }
+    ensures { λ r. ⌜ Definition.Otherwise factoring (system n m (now (k .entry)) (now (c .entry)) (now (e .entry)) (now (b .entry))) noise n m r ⌝ }
 {
     let s = noisy_kkt::solve_noisy_kkt(
         k,
@@ -116,6 +115,7 @@ fn otherwise(
 // The solve with what `update` leaves.
 fn after_update(
     factoring: Factoring,
+    l: &[f64],
     k: &[f64],
     c: &[f64],
     e: &[f64],
@@ -135,13 +135,13 @@ fn after_update(
     vectors: &mut [f64],
 ) -> Solved
     requires { ⌜ Sized n m (now k) (now c) (now e) (now b)
-        × Regular n (factoring .factored) (factoring .factor)
+        × Regular n (factoring .factored) (now l)
         × Workspace n m (now gram) (now ks) (now es) (now left) (now coefficients) (now range) (now q) (now null) (now h) (now vectors) ⌝ }
-    ensures { λ r. ⌜ Definition.solutionOf n m r
-        ≡ Definition.afterUpdate factoring (system n m (now (k .entry)) (now (c .entry)) (now (e .entry)) (now (b .entry))) noise ⌝ }
+    ensures { λ r. ⌜ Definition.solutionOf n m r (now (l .entry))
+        ≡ Definition.afterUpdate (factor factoring (now (l .entry)))
+        (system n m (now (k .entry)) (now (c .entry)) (now (e .entry)) (now (b .entry))) noise ⌝ }
 {
-    let l = factoring.factor;
-    let found = from_factor(factoring.factored, &l, k, c, e, b, n, m, noise, left, gram);
+    let found = from_factor(factoring.factored, l, k, c, e, b, n, m, noise, left, gram);
     let x = found.x;
     let multipliers = found.multipliers;
     if found.found {
@@ -173,7 +173,7 @@ fn after_update(
     )
 }
 
-// q is the whole problem's, n by n; K, c, E and b are those of the variables `solved`. The rows of q go to room.
+// q is the whole problem's, n by n; K, c, E and b are those of the variables `solved`. The rows of q go to room; l holds the kept factor.
 pub fn solve_free(
     factoring: Factoring,
     q: &[f64],
@@ -197,22 +197,26 @@ pub fn solve_free(
     null: &mut [f64],
     h: &mut [f64],
     vectors: &mut [f64],
+    l: &mut [f64],
 ) -> Solved
     requires { ⌜ Block n originals (now q)
         × Rising originals (now solved)
-        × Good originals factoring
+        × Good originals factoring (now l)
+        × (originals * originals ≤ length (now l))
         × (originals * n ≤ length (now room))
         × Sized (length (now solved)) m (now k) (now c) (now e) (now b)
         × Workspace (length (now solved)) m (now gram) (now ks) (now es) (now left) (now coefficients) (now range)
         (now qq) (now null) (now h) (now vectors) ⌝ }
-    ensures { λ r. ⌜ Definition.solutionOf (length (now (solved .entry))) m r
+    ensures { λ r. ⌜ Definition.solutionOf (length (now (solved .entry))) m r (now (l .exit))
         ≡ Definition.solveFree (now (q .entry)) n (now (solved .entry))
-        (system (length (now (solved .entry))) m (now (k .entry)) (now (c .entry)) (now (e .entry)) (now (b .entry))) noise factoring ⌝ }
-    ensures { λ r. ⌜ Good originals (r .factoring) ⌝ }
+        (system (length (now (solved .entry))) m (now (k .entry)) (now (c .entry)) (now (e .entry)) (now (b .entry))) noise factoring
+        (now (l .entry)) ⌝ }
+    ensures { λ r. ⌜ Good originals (r .factoring) (now (l .exit)) ⌝ }
 {
-    let updated = factoring.update(q, n, originals, solved, room);
+    let updated = factoring.update(q, n, originals, solved, l, room);
     after_update(
         updated,
+        l,
         k,
         c,
         e,

@@ -82,7 +82,7 @@ pub fn minimum(
 ) -> Passed
     requires { ⌜ Shape originals n m (now q) (now c) (now e)
         × AllCut n segments
-        × Kept originals n segments iterate
+        × Kept n segments iterate
         × (n ≤ length (now fixed))
         × Split originals n m (now e) (iterate .board .state) (now indices) (now solved) (now slacks)
         × (m ≤ length (now residuals))
@@ -92,7 +92,7 @@ pub fn minimum(
     ensures { λ r. ⌜ FreeStep.AfterMinimum originals n m (now (q .entry)) (now (c .entry)) (now (e .entry)) segments (now (fixed .entry))
         «q_amax» linear (now (solved .entry)) (now (slacks .entry)) (now (kept .entry)) (now (residuals .entry)) (now (delta .entry))
         (now (multipliers .entry)) iterate r ⌝ }
-    ensures { λ r. ⌜ Kept originals n segments (r .iterate) ⌝ }
+    ensures { λ r. ⌜ Kept n segments (r .iterate) ⌝ }
 {
     let all = slack_rows::all_multipliers(multipliers, kept, m);
     let step = slack_steps(e, n, m, originals, solved, slacks, delta, residuals);
@@ -142,12 +142,12 @@ fn on_ray(
     ray: Ray,
 ) -> Passed
     requires { ⌜ AllCut n segments
-        × Kept originals n segments iterate
+        × Kept n segments iterate
         × Split originals n m (now e) (iterate .board .state) (now indices) (now solved) (now slacks) ⌝ }
     ensures { λ r. ⌜ passedOf n m r
         ≡ FreeStep.onRay originals n m (now (e .entry)) segments (now (solved .entry)) (now (slacks .entry)) iterate
         (rayOf (length (now (solved .entry))) ray) ⌝ }
-    ensures { λ r. ⌜ Kept originals n segments (r .iterate) ⌝ }
+    ensures { λ r. ⌜ Kept n segments (r .iterate) ⌝ }
 {
     if ray.found {
         let k = solved.len();
@@ -196,7 +196,7 @@ pub fn descend(
     vectors: &mut [f64],
 ) -> Passed
     requires { ⌜ AllCut n segments
-        × Kept originals n segments iterate
+        × Kept n segments iterate
         × Split originals n m (now e) (iterate .board .state) (now indices) (now solved) (now slacks)
         × (length (now solved) ≤ Sizes.originals)
         × (columns ≤ Sizes.columns)
@@ -211,7 +211,7 @@ pub fn descend(
     ensures { λ r. ⌜ passedOf n m r
         ≡ FreeStep.descend originals n m (now (e .entry)) segments (now (solved .entry)) (now (slacks .entry)) (now («c_free» .entry))
         (now (gradient .entry)) (now («q_free» .entry)) (now («e_free» .entry)) columns iterate ⌝ }
-    ensures { λ r. ⌜ Kept originals n segments (r .iterate) ⌝ }
+    ensures { λ r. ⌜ Kept n segments (r .iterate) ⌝ }
 {
     let k = solved.len();
     if all_zero(c_free, k) {

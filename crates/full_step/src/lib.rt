@@ -15,7 +15,7 @@ ghost use Rattle.segments.specs.Segments.{AllCut, AllPlaced};
 ghost use Rattle.free_list.specs.FreeList.{freeIndices};
 ghost use Rattle.blocking.specs.Blocking.{Entries};
 ghost use Rattle.iterate.specs.Iterate.{passedOf, Kept};
-ghost use Rattle.advance.specs.Advance.{Shape, Gives, Keeps};
+ghost use Rattle.advance.specs.Advance.{Shape, Gives};
 ghost use Rattle.full_step.specs.FullStep as FullStep;
 ghost use Rattle.full_step.specs.FullStep.{Gathered};
 
@@ -85,7 +85,7 @@ fn stepped(
 ) -> Passed
     requires { ⌜ Shape originals n m (now q) (now c) (now e)
         × AllCut n segments
-        × Kept originals n segments iterate
+        × Kept n segments iterate
         × (n ≤ length (now fixed))
         × (now indices ≡ freeIndices n (iterate .board .state))
         × Entries (length (now indices)) (now «x_free») (now target) (now lower) (now upper)
@@ -94,7 +94,7 @@ fn stepped(
         ≡ FullStep.stepped originals n m (now (q .entry)) (now (c .entry)) (now (e .entry)) segments (now (fixed .entry)) «q_amax» linear
         (now (indices .entry)) solved (now («x_free» .entry)) (now (target .entry)) (now (lower .entry)) (now (upper .entry)) (take m multipliers)
         iterate ⌝ }
-    ensures { λ r. ⌜ Kept originals n segments (r .iterate) ⌝ }
+    ensures { λ r. ⌜ Kept n segments (r .iterate) ⌝ }
 {
     let board = iterate.board;
     let x = board.x;
@@ -154,7 +154,7 @@ fn ray_step(
     ensures { λ r. ⌜ Gives n r
         (FullStep.rayStep n segments (now (indices .entry)) (now («x_free» .entry)) (now (direction .entry)) (now (lower .entry))
         (now (upper .entry)) iterate) ⌝ }
-    ensures { λ r. ⌜ Keeps n segments iterate r ⌝ }
+    ensures { λ r. ⌜ Kept n segments (r .iterate) ⌝ }
 {
     let hit = blocking::ratio_test(x_free, direction, lower, upper, indices.len());
     let Hit::Found(step, k, side) = hit else {
@@ -195,14 +195,14 @@ pub fn toward(
 ) -> Passed
     requires { ⌜ Shape originals n m (now q) (now c) (now e)
         × AllCut n segments
-        × Kept originals n segments iterate
+        × Kept n segments iterate
         × (n ≤ length (now fixed))
         × (now indices ≡ freeIndices n (iterate .board .state))
         × (solved ≤ length (now indices))
         × (length (now indices) ≤ length (now step)) ⌝ }
     ensures { λ r. ⌜ FullStep.Toward originals n m (now (q .entry)) (now (c .entry)) (now (e .entry)) segments (now (fixed .entry)) «q_amax» linear
         solved (now (step .entry)) (take m multipliers) iterate r ⌝ }
-    ensures { λ r. ⌜ Kept originals n segments (r .iterate) ⌝ }
+    ensures { λ r. ⌜ Kept n segments (r .iterate) ⌝ }
 {
     let board = iterate.board;
     let count = indices.len();
@@ -247,7 +247,7 @@ pub fn along(
         × (now indices ≡ freeIndices n (iterate .board .state))
         × (length (now indices) ≤ length (now direction)) ⌝ }
     ensures { λ r. ⌜ Gives n r (FullStep.along n segments (now (direction .entry)) iterate) ⌝ }
-    ensures { λ r. ⌜ Keeps n segments iterate r ⌝ }
+    ensures { λ r. ⌜ Kept n segments (r .iterate) ⌝ }
 {
     let board = iterate.board;
     let count = indices.len();

@@ -7,7 +7,6 @@ use lib.ListN.{take}
 use Rattle.folds.specs.Run.{Pass, more, done}
 use Rattle.segments.specs.Segments.{AllPlaced}
 use Rattle.segments.specs.declared.Segments.{Segments}
-use Rattle.factoring.specs.Kept.{Good}
 use Rattle.iterate.specs.declared.Iterate.{Iterate}
 use Rattle.iterate.specs.declared.Ending.{Ending}
 use Rattle.iterate.specs.declared.Ending.the-variants.{More, Optimal, NonFiniteCovariance, SingularCovariance, Unbounded, NotConverged}
@@ -34,7 +33,6 @@ passed NotConverged i x multipliers = done notConverged
 unfoldable pub passedOf : (n m : ℕ) → Passed → Pass Iterate Result
 passedOf n m r = passed (r .ending) (r .iterate) (take n (r .iterate .board .x)) (take m (r .multipliers))
 
--- what every pass keeps: each variable is held at one of its points or free between two, and the kept factor's lists rise, below `originals`
-pub record Kept (originals n : ℕ) (segments : List Segments) (i : Iterate) : Type 0 where
+-- what every pass keeps: each variable is held at one of its points or free between two
+pub record Kept (n : ℕ) (segments : List Segments) (i : Iterate) : Type 0 where
   pub placed : AllPlaced n segments (i .board .state)
-  pub factor : Good originals (i .factoring)

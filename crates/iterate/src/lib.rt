@@ -5,15 +5,13 @@ ghost use Rattle.sizes.specs.Sizes as Sizes;
 ghost use Rattle.arith.specs.Float.{f0};
 use blocking::Board;
 use blocking::Released;
-use factoring::Factoring;
 
-// The point with its active set, the variable that the pass before released, where every variable was last freed at once, and the kept factor.
+// The point with its active set, the variable that the pass before released, and where every variable was last freed at once.
 pub struct Iterate {
     pub board: Board,
     pub released: Released,
     pub freed: bool,
     pub freed_at: [f64; sizes::VARIABLES],
-    pub factoring: Factoring,
 }
 
 pub enum Ending {

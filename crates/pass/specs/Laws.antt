@@ -18,7 +18,6 @@ use Rattle.scaled.specs.System.{system}
 use Rattle.solution.specs.Solution.{answer}
 use Rattle.factor.specs.Factor.{Rising}
 use Rattle.factor.specs.Laws.{rising-chosen}
-use Rattle.factoring.specs.Kept.{Good}
 use Rattle.factoring.specs.declared.Factoring.{Factoring}
 use Rattle.segments.specs.Segments.{stateAt}
 use Rattle.segments.specs.declared.Segments.{Segments}
@@ -27,7 +26,7 @@ use Rattle.free_list.specs.FreeList.{isFree, freeIndices, slopes}
 use Rattle.free_list.specs.Laws.{free-originals}
 use Rattle.slack_rows.specs.Laws as SlackRows
 use Rattle.iterate.specs.Problem.{Problem, problem, firstSlackColumn}
-use Rattle.iterate.specs.Iterate.{Result, Kept}
+use Rattle.iterate.specs.Iterate.{Result}
 use Rattle.iterate.specs.declared.Iterate.{Iterate}
 use Rattle.advance.specs.Advance.{withoutFree}
 use Rattle.free_problem.specs.FreeProblem.{Gathered, gatheredOf, gather}
@@ -35,9 +34,9 @@ use Rattle.free_problem.specs.declared.Free.{Free}
 use Rattle.free_problem.specs.Laws as Gathered
 use Rattle.free_solve.specs.FreeSolve.{solutionOf, solveFree}
 use Rattle.free_solve.specs.declared.Solved.{Solved}
-use Rattle.free_solve.specs.Laws.{left-answer, left-factoring}
+use Rattle.free_solve.specs.Laws.{left-answer, left-factoring, left-factor}
 use Rattle.free_step.specs.FreeStep.{Split}
-use Rattle.pass.specs.Pass.{onSolution, withFactoring, onProblem, onGathered, withFree, pass}
+use Rattle.pass.specs.Pass.{State, state, beside, onSolution, onProblem, onGathered, withFree, pass}
 
 -- a length that is known, in an inequality
 pub still : {a b l : ℕ} → l ≡ b → a ≤ b → a ≤ l
@@ -49,7 +48,7 @@ within e h = rw e h
 -- ---- the split
 free-chosen : (n : ℕ) (state : List Spot) → freeIndices n state ≡ chosen n (λ i. isFree (stateAt state i))
 unfolding freeIndices
-free-chosen n state = refl
+free-chosen n spots = refl
 
 lead-length : {solved : List ℕ} (originals : ℕ) (indices : List ℕ) → solved ≡ take (partitionPoint originals indices) indices →
     length solved ≡ partitionPoint originals indices
@@ -89,61 +88,53 @@ module _ {indices solved : List ℕ} (originals n : ℕ) (state : List Spot) (wi
               rw (rest, lead-length originals indices lead, free, free-chosen n state) (SlackRows.split-rows n m originals first room _ within few (omega arith));
         }
 
--- ---- with another factor
-module _ {j : Iterate} (i : Iterate) (f : Factoring) (e : j ≡ withFactoring i f) where
-  pub factoring-kept : (o n : ℕ) (segments : List Segments) → Kept o n segments i → Good o f → Kept o n segments j
-  unfolding withFactoring
-  factoring-kept o n segments kept good = rw e (record { placed = kept .placed; factor = good })
-
-  pub factoring-split : (o n m : ℕ) (a : List Float) (indices solved slacks : List ℕ) → Split o n m a (i .board .state) indices solved slacks →
-      Split o n m a (j .board .state) indices solved slacks
-  unfolding withFactoring
-  factoring-split o n m a indices solved slacks split = rw e split
-
 -- ---- what the calls give
 module _ (originals n m : ℕ) (q c e b : List Float) (segments : List Segments) (fixed : List Bool) (qAmax linear : Float)
-    (solved slacks : List ℕ) (i : Iterate) where
-  pub problem-from : {x : Pass Iterate Result} {j : Iterate} (kept : List ℕ) (cFree gradient residuals qFree eFree residual : List Float) (noise : Float) (r : Solved) →
-      solutionOf (length solved) (length kept) r
-      ≡ solveFree q n solved (system (length solved) (length kept) qFree gradient eFree residual) noise (i .factoring) →
-      j ≡ withFactoring i (r .factoring) →
-      x ≡ onSolution (problem originals n m q c e b) segments fixed qAmax linear solved slacks kept cFree gradient residuals qFree eFree j
+    (solved slacks : List ℕ) (i : Iterate) (f : Factoring) (l : List Float) where
+  pub problem-from : {x : Pass Iterate Result} (kept : List ℕ) (cFree gradient residuals qFree eFree residual : List Float) (noise : Float) (r : Solved)
+      (l′ : List Float) →
+      solutionOf (length solved) (length kept) r l′
+      ≡ solveFree q n solved (system (length solved) (length kept) qFree gradient eFree residual) noise f l →
+      x ≡ onSolution (problem originals n m q c e b) segments fixed qAmax linear solved slacks kept cFree gradient residuals qFree eFree i
       (answer (r .verdict) (take (length solved) (r .x)) (take (length kept) (r .multipliers))) →
-      x ≡ onProblem (problem originals n m q c e b) segments fixed qAmax linear solved slacks kept cFree gradient residuals qFree eFree residual noise i
+      beside (r .factoring) l′ x
+      ≡ onProblem (problem originals n m q c e b) segments fixed qAmax linear solved slacks kept cFree gradient residuals qFree eFree residual noise i f l
   unfolding onProblem
-  problem-from kept cFree gradient residuals qFree eFree residual noise r f g h =
-      h ∙ rw (g, left-answer _ _ r _ f, left-factoring _ _ r _ f)
+  problem-from kept cFree gradient residuals qFree eFree residual noise r l′ s h =
+      rw (h, left-answer _ _ r l′ _ s, left-factoring _ _ r l′ _ s, left-factor _ _ r l′ _ s)
 
-  pub gathered-from : {x : Pass Iterate Result} {g : Gathered} (k : ℕ) (r : Free) (qFree eFree : List Float) → gatheredOf k m r qFree eFree ≡ g →
+  pub gathered-from : {x : Pass State Result} {g : Gathered} (k : ℕ) (r : Free) (qFree eFree : List Float) → gatheredOf k m r qFree eFree ≡ g →
       x ≡ onProblem (problem originals n m q c e b) segments fixed qAmax linear solved slacks (take (r .columns) (r .kept)) (take k (r .c))
-      (take k (r .gradient)) (take m (r .residuals)) (take (k * k) qFree) (take (k * r .columns) eFree) (take (r .columns) (r .residual)) (r .noise) i →
-      x ≡ onGathered (problem originals n m q c e b) segments fixed qAmax linear solved slacks g i
+      (take k (r .gradient)) (take m (r .residuals)) (take (k * k) qFree) (take (k * r .columns) eFree) (take (r .columns) (r .residual)) (r .noise) i f l →
+      x ≡ onGathered (problem originals n m q c e b) segments fixed qAmax linear solved slacks g i f l
   unfolding onGathered
-  gathered-from k r qFree eFree f h =
+  gathered-from k r qFree eFree s h =
       h
       ∙ rw (
-        Gathered.taken-kept k m r qFree eFree f,
-        Gathered.taken-c k m r qFree eFree f,
-        Gathered.taken-gradient k m r qFree eFree f,
-        Gathered.taken-residuals k m r qFree eFree f,
-        Gathered.taken-q k m r qFree eFree f,
-        Gathered.taken-e k m r qFree eFree f,
-        Gathered.taken-residual k m r qFree eFree f,
-        Gathered.noise-is k m r qFree eFree f,
+        Gathered.taken-kept k m r qFree eFree s,
+        Gathered.taken-c k m r qFree eFree s,
+        Gathered.taken-gradient k m r qFree eFree s,
+        Gathered.taken-residuals k m r qFree eFree s,
+        Gathered.taken-q k m r qFree eFree s,
+        Gathered.taken-e k m r qFree eFree s,
+        Gathered.taken-residual k m r qFree eFree s,
+        Gathered.noise-is k m r qFree eFree s,
       )
 
-  pub free-from : {x : Pass Iterate Result} {g : Gathered} {slope : List Float} → g ≡ gather (problem originals n m q c e b) (take n (i .board .x)) solved slacks slope →
-      slope ≡ slopes (length solved) n segments (i .board .state) → x ≡ onGathered (problem originals n m q c e b) segments fixed qAmax linear solved slacks g i →
-      x ≡ withFree (problem originals n m q c e b) segments fixed qAmax linear solved slacks i
+  pub free-from : {x : Pass State Result} {g : Gathered} {slope : List Float} → g ≡ gather (problem originals n m q c e b) (take n (i .board .x)) solved slacks slope →
+      slope ≡ slopes (length solved) n segments (i .board .state) → x ≡ onGathered (problem originals n m q c e b) segments fixed qAmax linear solved slacks g i f l →
+      x ≡ withFree (problem originals n m q c e b) segments fixed qAmax linear solved slacks i f l
   unfolding withFree
-  free-from f s h = h ∙ rw (f, s)
+  free-from g s h = h ∙ rw (g, s)
 
   module _ {indices : List ℕ} (free : indices ≡ freeIndices n (i .board .state)) (lead : solved ≡ take (partitionPoint originals indices) indices) where
-    pub pass-without : {x : Pass Iterate Result} → length solved ≡ 0 → x ≡ withoutFree originals n m segments fixed i → x ≡ pass (problem originals n m q c e b) segments fixed qAmax linear i
+    pub pass-without : {x : Pass Iterate Result} → length solved ≡ 0 → x ≡ withoutFree originals n m segments fixed i →
+        beside f l x ≡ pass (problem originals n m q c e b) segments fixed qAmax linear (state i f l)
     unfolding pass pick
-    pass-without t h = h ∙ rw (← free, ← lead-length originals indices lead, t)
+    pass-without t h = rw (h, ← free, ← lead-length originals indices lead, t)
 
-    pub pass-with : {x : Pass Iterate Result} → (length solved ≡ 0 → ⊥) → slacks ≡ drop (length solved) indices →
-        x ≡ withFree (problem originals n m q c e b) segments fixed qAmax linear solved slacks i → x ≡ pass (problem originals n m q c e b) segments fixed qAmax linear i
+    pub pass-with : {x : Pass State Result} → (length solved ≡ 0 → ⊥) → slacks ≡ drop (length solved) indices →
+        x ≡ withFree (problem originals n m q c e b) segments fixed qAmax linear solved slacks i f l →
+        x ≡ pass (problem originals n m q c e b) segments fixed qAmax linear (state i f l)
     unfolding pass pick
     pass-with t s h = h ∙ rw (← free, ← lead, ← lead-length originals indices lead, ne-eqb _ _ t, s)

@@ -8,7 +8,7 @@ use lib.ListN.{length, take, drop}
 use lib.Ieee.{Float}
 use Rattle.folds.specs.Fold.{pick}
 use Rattle.folds.specs.Position.{partitionPoint}
-use Rattle.folds.specs.Run.{Pass, done}
+use Rattle.folds.specs.Run.{Pass, more, done}
 use Rattle.sizes.specs.Sizes as Sizes
 use Rattle.vector.specs.Vector.{Below}
 use Rattle.scaled.specs.System.{system}
@@ -27,6 +27,19 @@ use Rattle.free_problem.specs.declared.Free.{Free}
 use Rattle.free_solve.specs.FreeSolve.{solveFree}
 use Rattle.free_step.specs.FreeStep.{afterMinimum, descend}
 use Rattle.advance.specs.Advance.{withoutFree}
+use Rattle.pass.specs.declared.Made.{Made}
+
+-- ---- what a pass changes: the iterate, and the kept factor, whose matrix is l
+pub data State : Type 0 where
+  state : Iterate → Factoring → (l : List Float) → State
+
+unfoldable pub beside : Factoring → (l : List Float) → Pass Iterate Result → Pass State Result
+beside f l (more i) = more (state i f l)
+beside f l (done r) = done r
+
+-- of what the code leaves, with n variables and m columns
+unfoldable pub madeOf : (n m : ℕ) → Made → (l : List Float) → Pass State Result
+madeOf n m r l = beside (r .factoring) l (passedOf n m (r .passed))
 
 -- ---- after the solve
 -- `if let Some((delta, multipliers)) = solution`, else the direction of zero curvature; `?` gives back what is refused
@@ -48,24 +61,23 @@ OnSolution originals n m q c e segments fixed qAmax linear solved slacks kept cF
     ≡ onSolution (problem originals n m q c e b) segments fixed qAmax linear solved slacks kept cFree gradient residuals qFree eFree i s
 
 -- ---- the solve
--- `factoring` is changed in place
-unfoldable pub withFactoring : Iterate → Factoring → Iterate
-withFactoring i f = record { board = i .board; released = i .released; freed = i .freed; «freed_at» = i .«freed_at»; factoring = f }
-
 -- `let problem = (&q_free, &gradient_free, &e_free, &residual)`, and its solve
 unfoldable pub onProblem : Problem → (segments : List Segments) (fixed : List Bool) (qAmax linear : Float) (solved slacks kept : List ℕ)
-    (cFree gradient residuals qFree eFree residual : List Float) (noise : Float) → Iterate → Pass Iterate Result
-onProblem (problem originals n m q c e b) segments fixed qAmax linear solved slacks kept cFree gradient residuals qFree eFree residual noise i =
-    let s = solveFree q n solved (system (length solved) (length kept) qFree gradient eFree residual) noise (i .factoring) in
-    onSolution (problem originals n m q c e b) segments fixed qAmax linear solved slacks kept cFree gradient residuals qFree eFree
-    (withFactoring i (s .factoring)) (s .answer)
+    (cFree gradient residuals qFree eFree residual : List Float) (noise : Float) → Iterate → Factoring → (l : List Float) → Pass State Result
+onProblem (problem originals n m q c e b) segments fixed qAmax linear solved slacks kept cFree gradient residuals qFree eFree residual noise i f l =
+    let s = solveFree q n solved (system (length solved) (length kept) qFree gradient eFree residual) noise f l in
+    beside (s .factoring) (s .factor)
+    (onSolution (problem originals n m q c e b) segments fixed qAmax linear solved slacks kept cFree gradient residuals qFree eFree i (s .answer))
 
+-- of what the code leaves, whatever the right side; l′ is the factor that is left
 abbrev pub OnProblem : (originals n m : ℕ) (q c e : List Float) (segments : List Segments) (fixed : List Bool) (qAmax linear : Float)
-    (solved slacks kept : List ℕ) (cFree gradient residuals qFree eFree residual : List Float) (noise : Float) → Iterate → (r : Passed) → Type 0
-OnProblem originals n m q c e segments fixed qAmax linear solved slacks kept cFree gradient residuals qFree eFree residual noise i r =
+    (solved slacks kept : List ℕ) (cFree gradient residuals qFree eFree residual : List Float) (noise : Float) → Iterate → Factoring →
+    (l : List Float) (r : Made) (l′ : List Float) → Type 0
+OnProblem originals n m q c e segments fixed qAmax linear solved slacks kept cFree gradient residuals qFree eFree residual noise i f l r l′ =
     (b : List Float) →
-    passedOf n m r
+    madeOf n m r l′
     ≡ onProblem (problem originals n m q c e b) segments fixed qAmax linear solved slacks kept cFree gradient residuals qFree eFree residual noise i
+    f l
 
 -- what the solve and what follows it ask of the lists, with k variables solved and m columns
 pub record Lists (k m : ℕ) (kept : List ℕ) (cFree gradient residuals qFree eFree : List Float) : Type 0 where
@@ -80,28 +92,28 @@ pub record Lists (k m : ℕ) (kept : List ℕ) (cFree gradient residuals qFree e
 
 -- of the free problem that was gathered
 unfoldable pub onGathered : Problem → (segments : List Segments) (fixed : List Bool) (qAmax linear : Float) (solved slacks : List ℕ) → Gathered →
-    Iterate → Pass Iterate Result
-onGathered p segments fixed qAmax linear solved slacks g i =
+    Iterate → Factoring → (l : List Float) → Pass State Result
+onGathered p segments fixed qAmax linear solved slacks g i f l =
     onProblem p segments fixed qAmax linear solved slacks (g .kept) (g .c) (g .gradient) (g .residuals) (g .«q_free») (g .«e_free») (g .residual)
-    (g .noise) i
+    (g .noise) i f l
 
 abbrev pub OnGathered : (originals n m : ℕ) (q c e : List Float) (segments : List Segments) (fixed : List Bool) (qAmax linear : Float)
-    (solved slacks : List ℕ) → Gathered → Iterate → (r : Passed) → Type 0
-OnGathered originals n m q c e segments fixed qAmax linear solved slacks g i r =
-    (b : List Float) → passedOf n m r ≡ onGathered (problem originals n m q c e b) segments fixed qAmax linear solved slacks g i
+    (solved slacks : List ℕ) → Gathered → Iterate → Factoring → (l : List Float) (r : Made) (l′ : List Float) → Type 0
+OnGathered originals n m q c e segments fixed qAmax linear solved slacks g i f l r l′ =
+    (b : List Float) → madeOf n m r l′ ≡ onGathered (problem originals n m q c e b) segments fixed qAmax linear solved slacks g i f l
 
 -- ---- the pass
 -- from `let slope = ..` on
 unfoldable pub withFree : Problem → (segments : List Segments) (fixed : List Bool) (qAmax linear : Float) (solved slacks : List ℕ) → Iterate →
-    Pass Iterate Result
-withFree (problem originals n m q c e b) segments fixed qAmax linear solved slacks i =
+    Factoring → (l : List Float) → Pass State Result
+withFree (problem originals n m q c e b) segments fixed qAmax linear solved slacks i f l =
     onGathered (problem originals n m q c e b) segments fixed qAmax linear solved slacks
-    (gather (problem originals n m q c e b) (take n (i .board .x)) solved slacks (slopes (length solved) n segments (i .board .state))) i
+    (gather (problem originals n m q c e b) (take n (i .board .x)) solved slacks (slopes (length solved) n segments (i .board .state))) i f l
 
 -- `let (solved, slacks) = split_slacks(&indices, originals); if solved.is_empty() { .. }`
-unfoldable pub pass : Problem → (segments : List Segments) (fixed : List Bool) (qAmax linear : Float) → Iterate → Pass Iterate Result
-pass (problem originals n m q c e b) segments fixed qAmax linear i =
+unfoldable pub pass : Problem → (segments : List Segments) (fixed : List Bool) (qAmax linear : Float) → State → Pass State Result
+pass (problem originals n m q c e b) segments fixed qAmax linear (state i f l) =
     let indices = freeIndices n (i .board .state) in
     let split = partitionPoint originals indices in
-    pick (eqb split 0) (withoutFree originals n m segments fixed i)
-    (withFree (problem originals n m q c e b) segments fixed qAmax linear (take split indices) (drop split indices) i)
+    pick (eqb split 0) (beside f l (withoutFree originals n m segments fixed i))
+    (withFree (problem originals n m q c e b) segments fixed qAmax linear (take split indices) (drop split indices) i f l)

@@ -1,5 +1,6 @@
 // qp.rs, a pass of `solve_piecewise_in_units`. Q is n by n, E is n by m; the variables from `originals` on are slacks, each with one of the last columns
-// of E. `indices` are the free variables, `solved` those of them below `originals`, `slacks` the others. The slices from room or ks on are work memory.
+// of E. `indices` are the free variables, `solved` those of them below `originals`, `slacks` the others. The slices from room or ks on are work memory,
+// but l, which holds the kept factor.
 ghost use mathlib.Core.Path.{_≡_};
 ghost use Prim.Native.Nat.{_≤_, _*_};
 ghost use lib.ListN.{length, take};
@@ -7,17 +8,18 @@ ghost use Rattle.sizes.specs.Sizes as Sizes;
 ghost use Rattle.vector.specs.Vector.{Below};
 ghost use Rattle.noisy_kkt.specs.Room.{Squares, Tall};
 ghost use Rattle.factor.specs.Factor.{Rising};
+ghost use Rattle.factoring.specs.Kept.{Good};
 ghost use Rattle.solution.specs.Solution.{answer};
 ghost use Rattle.segments.specs.Segments.{AllCut};
 ghost use Rattle.free_list.specs.FreeList.{freeIndices};
 ghost use Rattle.iterate.specs.Problem.{problem, Shaped, Room};
-ghost use Rattle.iterate.specs.Iterate.{passedOf, Kept};
+ghost use Rattle.iterate.specs.Iterate.{Kept};
 ghost use Rattle.advance.specs.Advance.{Shape};
 ghost use Rattle.free_problem.specs.FreeProblem.{gatheredOf};
 ghost use Rattle.free_solve.specs.Workspace.{Workspace};
 ghost use Rattle.free_step.specs.FreeStep.{Split};
 ghost use Rattle.pass.specs.Pass as Definition;
-ghost use Rattle.pass.specs.Pass.{Lists};
+ghost use Rattle.pass.specs.Pass.{Lists, state};
 use factoring::Factoring;
 use free_problem::Free;
 use iterate::Ending;
@@ -25,6 +27,12 @@ use iterate::Iterate;
 use iterate::Passed;
 use segments::Segments;
 use solution::Verdict;
+
+// A pass, and what it leaves of the kept factor, beside the factor itself.
+pub struct Made {
+    pub passed: Passed,
+    pub factoring: Factoring,
+}
 
 // What follows the solve on the free variables.
 fn after_solve(
@@ -63,7 +71,7 @@ fn after_solve(
 ) -> Passed
     requires { ⌜ Shape originals n m (now q) (now c) (now e)
         × AllCut n segments
-        × Kept originals n segments iterate
+        × Kept n segments iterate
         × (n ≤ length (now fixed))
         × Split originals n m (now e) (iterate .board .state) (now indices) (now solved) (now slacks)
         × Lists (length (now solved)) m (now kept) (now «c_free») (now gradient) (now residuals) (now «q_free») (now «e_free»)
@@ -76,7 +84,7 @@ fn after_solve(
     ensures { λ r. ⌜ Definition.OnSolution originals n m (now (q .entry)) (now (c .entry)) (now (e .entry)) segments (now (fixed .entry)) «q_amax» linear
         (now (solved .entry)) (now (slacks .entry)) (now (kept .entry)) (now («c_free» .entry)) (now (gradient .entry)) (now (residuals .entry))
         (now («q_free» .entry)) (now («e_free» .entry)) iterate (answer verdict (now (delta .entry)) (now (multipliers .entry))) r ⌝ }
-    ensures { λ r. ⌜ Kept originals n segments (r .iterate) ⌝ }
+    ensures { λ r. ⌜ Kept n segments (r .iterate) ⌝ }
 {
     match verdict {
         Verdict::Solved => free_step::minimum(
@@ -129,25 +137,10 @@ fn after_solve(
     }
 }
 
-// With the factor that a solve left.
-fn with_factoring(iterate: Iterate, factoring: Factoring) -> Iterate
-    ensures { λ r. ⌜ r ≡ Definition.withFactoring iterate factoring ⌝ }
-{
-    let board = iterate.board;
-    let released = iterate.released;
-    let freed_at = iterate.freed_at;
-    Iterate {
-        board: board,
-        released: released,
-        freed: iterate.freed,
-        freed_at: freed_at,
-        factoring: factoring,
-    }
-}
-
 // The solve on the free variables, and what follows it.
 fn with_problem(
     iterate: Iterate,
+    factoring: Factoring,
     segments: [Segments; sizes::VARIABLES],
     fixed: &[bool],
     q: &[f64],
@@ -180,10 +173,11 @@ fn with_problem(
     null: &mut [f64],
     h: &mut [f64],
     vectors: &mut [f64],
-) -> Passed
+    l: &mut [f64],
+) -> Made
     requires { ⌜ Shape originals n m (now q) (now c) (now e)
         × AllCut n segments
-        × Kept originals n segments iterate
+        × Kept n segments iterate
         × (n ≤ length (now fixed))
         × Split originals n m (now e) (iterate .board .state) (now indices) (now solved) (now slacks)
         × Rising originals (now solved)
@@ -192,15 +186,16 @@ fn with_problem(
         × Lists (length (now solved)) m (now kept) (now «c_free») (now gradient) (now residuals) (now «q_free») (now «e_free»)
         × (length (now kept) ≤ length (now residual))
         × Workspace (length (now solved)) (length (now kept)) (now gram) (now ks) (now es) (now left) (now coefficients) (now range)
-        (now qq) (now null) (now h) (now vectors) ⌝ }
+        (now qq) (now null) (now h) (now vectors)
+        × Good originals factoring (now l)
+        × (originals * originals ≤ length (now l)) ⌝ }
     ensures { λ r. ⌜ Definition.OnProblem originals n m (now (q .entry)) (now (c .entry)) (now (e .entry)) segments (now (fixed .entry)) «q_amax» linear
         (now (solved .entry)) (now (slacks .entry)) (now (kept .entry)) (now («c_free» .entry)) (now (gradient .entry)) (now (residuals .entry))
-        (now («q_free» .entry)) (now («e_free» .entry)) (now (residual .entry)) noise iterate r ⌝ }
-    ensures { λ r. ⌜ Kept originals n segments (r .iterate) ⌝ }
+        (now («q_free» .entry)) (now («e_free» .entry)) (now (residual .entry)) noise iterate factoring (now (l .entry)) r (now (l .exit)) ⌝ }
+    ensures { λ r. ⌜ Kept n segments (r .passed .iterate) × Good originals (r .factoring) (now (l .exit)) ⌝ }
 {
     let k = solved.len();
     let columns = kept.len();
-    let factoring = iterate.factoring;
     let s = free_solve::solve_free(
         factoring,
         q,
@@ -224,15 +219,15 @@ fn with_problem(
         null,
         h,
         vectors,
+        l,
     );
     let verdict = s.verdict;
     let delta = s.x;
     let multipliers = s.multipliers;
     let left_factoring = s.factoring;
-    let next = with_factoring(iterate, left_factoring);
-    after_solve(
+    let passed = after_solve(
         verdict,
-        next,
+        iterate,
         segments,
         fixed,
         q,
@@ -263,12 +258,17 @@ fn with_problem(
         null,
         h,
         vectors,
-    )
+    );
+    Made {
+        passed: passed,
+        factoring: left_factoring,
+    }
 }
 
 // The same, of what was gathered; Q's and E's blocks are the starts of q_free and e_free.
 fn with_gathered(
     iterate: Iterate,
+    factoring: Factoring,
     segments: [Segments; sizes::VARIABLES],
     fixed: &[bool],
     q: &[f64],
@@ -296,10 +296,11 @@ fn with_gathered(
     null: &mut [f64],
     h: &mut [f64],
     vectors: &mut [f64],
-) -> Passed
+    l: &mut [f64],
+) -> Made
     requires { ⌜ Shape originals n m (now q) (now c) (now e)
         × AllCut n segments
-        × Kept originals n segments iterate
+        × Kept n segments iterate
         × (n ≤ length (now fixed))
         × Split originals n m (now e) (iterate .board .state) (now indices) (now solved) (now slacks)
         × Rising originals (now solved)
@@ -310,11 +311,14 @@ fn with_gathered(
         × (originals * m ≤ length (now «e_free»))
         × (originals * n ≤ length (now room))
         × Workspace originals m (now gram) (now ks) (now es) (now left) (now coefficients) (now range)
-        (now qq) (now null) (now h) (now vectors) ⌝ }
+        (now qq) (now null) (now h) (now vectors)
+        × Good originals factoring (now l)
+        × (originals * originals ≤ length (now l)) ⌝ }
     ensures { λ r. ⌜ Definition.OnGathered originals n m (now (q .entry)) (now (c .entry)) (now (e .entry)) segments (now (fixed .entry)) «q_amax» linear
         (now (solved .entry)) (now (slacks .entry))
-        (gatheredOf (length (now (solved .entry))) m free (now («q_free» .entry)) (now («e_free» .entry))) iterate r ⌝ }
-    ensures { λ r. ⌜ Kept originals n segments (r .iterate) ⌝ }
+        (gatheredOf (length (now (solved .entry))) m free (now («q_free» .entry)) (now («e_free» .entry))) iterate factoring (now (l .entry)) r
+        (now (l .exit)) ⌝ }
+    ensures { λ r. ⌜ Kept n segments (r .passed .iterate) × Good originals (r .factoring) (now (l .exit)) ⌝ }
 {
     let k = solved.len();
     let columns = free.columns;
@@ -327,6 +331,7 @@ fn with_gathered(
     let residual = free.residual;
     with_problem(
         iterate,
+        factoring,
         segments,
         fixed,
         q,
@@ -359,12 +364,14 @@ fn with_gathered(
         null,
         h,
         vectors,
+        l,
     )
 }
 
 // A pass with free originals.
 fn with_free(
     iterate: Iterate,
+    factoring: Factoring,
     segments: [Segments; sizes::VARIABLES],
     fixed: &[bool],
     q: &[f64],
@@ -392,19 +399,22 @@ fn with_free(
     null: &mut [f64],
     h: &mut [f64],
     vectors: &mut [f64],
-) -> Passed
+    l: &mut [f64],
+) -> Made
     requires { ⌜ Shaped originals n m (now q) (now c) (now e) (now b)
         × AllCut n segments
-        × Kept originals n segments iterate
+        × Kept n segments iterate
         × (n ≤ length (now fixed))
         × Split originals n m (now e) (iterate .board .state) (now indices) (now solved) (now slacks)
         × Rising originals (now solved)
         × Room originals n m (now room) (now «q_free») (now «e_free») (now gram) (now ks) (now es) (now left) (now coefficients) (now range)
-        (now qq) (now null) (now h) (now vectors) ⌝ }
-    ensures { λ r. ⌜ passedOf n m r
+        (now qq) (now null) (now h) (now vectors)
+        × Good originals factoring (now l)
+        × (originals * originals ≤ length (now l)) ⌝ }
+    ensures { λ r. ⌜ Definition.madeOf n m r (now (l .exit))
         ≡ Definition.withFree (problem originals n m (now (q .entry)) (now (c .entry)) (now (e .entry)) (now (b .entry))) segments
-        (now (fixed .entry)) «q_amax» linear (now (solved .entry)) (now (slacks .entry)) iterate ⌝ }
-    ensures { λ r. ⌜ Kept originals n segments (r .iterate) ⌝ }
+        (now (fixed .entry)) «q_amax» linear (now (solved .entry)) (now (slacks .entry)) iterate factoring (now (l .entry)) ⌝ }
+    ensures { λ r. ⌜ Kept n segments (r .passed .iterate) × Good originals (r .factoring) (now (l .exit)) ⌝ }
 {
     let k = solved.len();
     let board = iterate.board;
@@ -430,6 +440,7 @@ fn with_free(
     );
     with_gathered(
         iterate,
+        factoring,
         segments,
         fixed,
         q,
@@ -457,12 +468,14 @@ fn with_free(
         null,
         h,
         vectors,
+        l,
     )
 }
 
 // A pass, given the free variables.
 fn with_indices(
     iterate: Iterate,
+    factoring: Factoring,
     segments: [Segments; sizes::VARIABLES],
     fixed: &[bool],
     q: &[f64],
@@ -488,26 +501,34 @@ fn with_indices(
     null: &mut [f64],
     h: &mut [f64],
     vectors: &mut [f64],
-) -> Passed
+    l: &mut [f64],
+) -> Made
     requires { ⌜ Shaped originals n m (now q) (now c) (now e) (now b)
         × AllCut n segments
-        × Kept originals n segments iterate
+        × Kept n segments iterate
         × (length (now fixed) ≡ n)
         × (now indices ≡ freeIndices n (iterate .board .state))
         × Room originals n m (now room) (now «q_free») (now «e_free») (now gram) (now ks) (now es) (now left) (now coefficients) (now range)
-        (now qq) (now null) (now h) (now vectors) ⌝ }
-    ensures { λ r. ⌜ passedOf n m r
+        (now qq) (now null) (now h) (now vectors)
+        × Good originals factoring (now l)
+        × (originals * originals ≤ length (now l)) ⌝ }
+    ensures { λ r. ⌜ Definition.madeOf n m r (now (l .exit))
         ≡ Definition.pass (problem originals n m (now (q .entry)) (now (c .entry)) (now (e .entry)) (now (b .entry))) segments
-        (now (fixed .entry)) «q_amax» linear iterate ⌝ }
-    ensures { λ r. ⌜ Kept originals n segments (r .iterate) ⌝ }
+        (now (fixed .entry)) «q_amax» linear (state iterate factoring (now (l .entry))) ⌝ }
+    ensures { λ r. ⌜ Kept n segments (r .passed .iterate) × Good originals (r .factoring) (now (l .exit)) ⌝ }
 {
     let solved = free_list::split_slacks(indices, originals);
     let k = solved.len();
     if k == 0 {
-        return advance::without_free(iterate, segments, fixed, n, originals);
+        let passed = advance::without_free(iterate, segments, fixed, n, originals);
+        return Made {
+            passed: passed,
+            factoring: factoring,
+        };
     }
     with_free(
         iterate,
+        factoring,
         segments,
         fixed,
         q,
@@ -535,11 +556,13 @@ fn with_indices(
         null,
         h,
         vectors,
+        l,
     )
 }
 
 pub fn pass(
     iterate: Iterate,
+    factoring: Factoring,
     segments: [Segments; sizes::VARIABLES],
     fixed: &[bool],
     q: &[f64],
@@ -564,17 +587,20 @@ pub fn pass(
     null: &mut [f64],
     h: &mut [f64],
     vectors: &mut [f64],
-) -> Passed
+    l: &mut [f64],
+) -> Made
     requires { ⌜ Shaped originals n m (now q) (now c) (now e) (now b)
         × AllCut n segments
-        × Kept originals n segments iterate
+        × Kept n segments iterate
         × (length (now fixed) ≡ n)
         × Room originals n m (now room) (now «q_free») (now «e_free») (now gram) (now ks) (now es) (now left) (now coefficients) (now range)
-        (now qq) (now null) (now h) (now vectors) ⌝ }
-    ensures { λ r. ⌜ passedOf n m r
+        (now qq) (now null) (now h) (now vectors)
+        × Good originals factoring (now l)
+        × (originals * originals ≤ length (now l)) ⌝ }
+    ensures { λ r. ⌜ Definition.madeOf n m r (now (l .exit))
         ≡ Definition.pass (problem originals n m (now (q .entry)) (now (c .entry)) (now (e .entry)) (now (b .entry))) segments
-        (now (fixed .entry)) «q_amax» linear iterate ⌝ }
-    ensures { λ r. ⌜ Kept originals n segments (r .iterate) ⌝ }
+        (now (fixed .entry)) «q_amax» linear (state iterate factoring (now (l .entry))) ⌝ }
+    ensures { λ r. ⌜ Kept n segments (r .passed .iterate) × Good originals (r .factoring) (now (l .exit)) ⌝ }
 {
     let board = iterate.board;
     let state = board.state;
@@ -582,6 +608,7 @@ pub fn pass(
     let count = free_list::free_indices(state, n, &mut indices);
     with_indices(
         iterate,
+        factoring,
         segments,
         fixed,
         q,
@@ -607,5 +634,6 @@ pub fn pass(
         null,
         h,
         vectors,
+        l,
     )
 }

@@ -37,6 +37,8 @@ const SMALL_ALL: usize = (FEW + FEW) * (FEW + FEW);
 
 const SMALL_FREE: usize = FEW * (FEW + FEW);
 
+const SMALL_SQUARE: usize = FEW * FEW;
+
 // Whether x meets the constraints and the rows.
 fn feasible(
     x: &[f64],
@@ -173,18 +175,20 @@ fn engine_small(
         (now (start .entry)) ⌝ }
 {
     let mut room = [0.0; SMALL_FREE];
-    let mut q_free = [0.0; SMALL_FREE];
+    let mut q_free = [0.0; SMALL_SQUARE];
     let mut e_free = [0.0; SMALL_FREE];
     let mut gram = [0.0; SMALL_ALL];
-    let mut ks = [0.0; SMALL_FREE];
+    let mut ks = [0.0; SMALL_SQUARE];
     let mut es = [0.0; SMALL_FREE];
     let mut left = [0.0; SMALL_FREE];
     let mut coefficients = [0.0; SMALL_FREE];
     let mut range = [0.0; SMALL_FREE];
-    let mut qq = [0.0; SMALL_FREE];
-    let mut null = [0.0; SMALL_FREE];
-    let mut h = [0.0; SMALL_FREE];
-    let mut vectors = [0.0; SMALL_FREE];
+    let mut qq = [0.0; SMALL_SQUARE];
+    let mut null = [0.0; SMALL_SQUARE];
+    let mut h = [0.0; SMALL_SQUARE];
+    let mut vectors = [0.0; SMALL_SQUARE];
+    let mut l = [0.0; SMALL_SQUARE];
+    let square = n * n;
     active::solve_piecewise_in_units(
         q,
         c,
@@ -208,6 +212,7 @@ fn engine_small(
         &mut null,
         &mut h,
         &mut vectors,
+        &mut l[..square],
     )
 }
 
@@ -244,6 +249,8 @@ fn engine_large(
     let mut null = [0.0; FREE_SQUARE];
     let mut h = [0.0; FREE_SQUARE];
     let mut vectors = [0.0; FREE_SQUARE];
+    let mut l = [0.0; FREE_SQUARE];
+    let square = n * n;
     active::solve_piecewise_in_units(
         q,
         c,
@@ -267,6 +274,7 @@ fn engine_large(
         &mut null,
         &mut h,
         &mut vectors,
+        &mut l[..square],
     )
 }
 

@@ -66,8 +66,8 @@ struct Sequence {
     differ: usize,
 }
 
-// How many floats of the kept factor, of the block on the set of these bits, are not those of c.
-fn factor_differing(f: Factoring, bits: usize, c: &[f64]) -> usize {
+// How many floats of the kept factor l, of the block on the set of these bits, are not those of c.
+fn factor_differing(f: Factoring, l: &[f64], bits: usize, c: &[f64]) -> usize {
     if !f.factored {
         return 1;
     }
@@ -75,12 +75,18 @@ fn factor_differing(f: Factoring, bits: usize, c: &[f64]) -> usize {
     if set_differs(held, bits) {
         return 1;
     }
-    let l = f.factor;
-    replay::lower_differing(&l, held.count, c)
+    replay::lower_differing(l, held.count, c)
 }
 
 // After an update to the set of these bits; what it should have given begins at a place.
-fn compare_update(s: &[u8], at: usize, bits: usize, f: Factoring, w: Sequence) -> Sequence
+fn compare_update(
+    s: &[u8],
+    at: usize,
+    bits: usize,
+    f: Factoring,
+    l: &[f64],
+    w: Sequence,
+) -> Sequence
     ensures { λ r. ⌜ r .kept ≡ f ⌝ }
 {
     let singular = replay::one_if(singular_differs(f, replay::number32(s, at)));
@@ -95,7 +101,7 @@ fn compare_update(s: &[u8], at: usize, bits: usize, f: Factoring, w: Sequence) -
         then.factors = std::num::wrapping_add_usize(w.factors, 1);
         then.differ = std::num::wrapping_add_usize(
             std::num::wrapping_add_usize(w.differ, singular),
-            factor_differing(f, bits, &c[..n]),
+            factor_differing(f, l, bits, &c[..n]),
         );
         return then;
     }
@@ -108,17 +114,20 @@ fn compare_update(s: &[u8], at: usize, bits: usize, f: Factoring, w: Sequence) -
     then
 }
 
-fn update(s: &[u8], q: &[f64], n: usize, originals: usize, w: Sequence) -> Sequence
-    requires { ⌜ Block n originals (now q) × (n ≤ Sizes.variables) × Kept.Good originals (w .kept) ⌝ }
-    ensures { λ r. ⌜ Kept.Good originals (r .kept) ⌝ }
+fn update(s: &[u8], q: &[f64], n: usize, originals: usize, l: &mut [f64], w: Sequence) -> Sequence
+    requires { ⌜ Block n originals (now q)
+        × (n ≤ Sizes.variables)
+        × Kept.Good originals (w .kept) (now l)
+        × (originals * originals ≤ length (now l)) ⌝ }
+    ensures { λ r. ⌜ Kept.Good originals (r .kept) (now (l .exit)) ⌝ }
 {
     let bits = replay::number32(s, replay::past(s, w.at, 1));
     let mut list = [0; ORIGINALS];
     let mut room = [0.0; 1536];
     let k = factor::rising(marks(bits), originals, &mut list);
     let kept = w.kept;
-    let f = kept.update(q, n, originals, &list[..k], &mut room);
-    compare_update(s, replay::past(s, w.at, 5), bits, f, w)
+    let f = kept.update(q, n, originals, &list[..k], l, &mut room);
+    compare_update(s, replay::past(s, w.at, 5), bits, f, l, w)
 }
 
 fn reset(s: &[u8], w: Sequence) -> Sequence
@@ -131,12 +140,15 @@ fn reset(s: &[u8], w: Sequence) -> Sequence
     then
 }
 
-fn step(s: &[u8], q: &[f64], n: usize, originals: usize, w: Sequence) -> Sequence
-    requires { ⌜ Block n originals (now q) × (n ≤ Sizes.variables) × Kept.Good originals (w .kept) ⌝ }
-    ensures { λ r. ⌜ Kept.Good originals (r .kept) ⌝ }
+fn step(s: &[u8], q: &[f64], n: usize, originals: usize, l: &mut [f64], w: Sequence) -> Sequence
+    requires { ⌜ Block n originals (now q)
+        × (n ≤ Sizes.variables)
+        × Kept.Good originals (w .kept) (now l)
+        × (originals * originals ≤ length (now l)) ⌝ }
+    ensures { λ r. ⌜ Kept.Good originals (r .kept) (now (l .exit)) ⌝ }
 {
     if replay::byte(s, w.at) == 0 {
-        return update(s, q, n, originals, w);
+        return update(s, q, n, originals, l, w);
     }
     reset(s, w)
 }
@@ -160,8 +172,17 @@ fn differing(n: usize) -> Replayed {
     }
 }
 
-fn run_steps(s: &[u8], at: usize, q: &[f64], n: usize, originals: usize, steps: usize) -> Replayed
-    requires { ⌜ Block n originals (now q) × (n ≤ Sizes.variables) ⌝ }
+// The kept factor stands in l.
+fn run_steps(
+    s: &[u8],
+    at: usize,
+    q: &[f64],
+    n: usize,
+    originals: usize,
+    steps: usize,
+    l: &mut [f64],
+) -> Replayed
+    requires { ⌜ Block n originals (now q) × (n ≤ Sizes.variables) × (originals * originals ≤ length (now l)) ⌝ }
 {
     let mut w = Sequence {
         at: at,
@@ -171,7 +192,7 @@ fn run_steps(s: &[u8], at: usize, q: &[f64], n: usize, originals: usize, steps: 
         differ: 0,
     };
     for _ in 0..steps {
-        w = step(s, q, n, originals, w);
+        w = step(s, q, n, originals, l, w);
     }
     let mut r = differing(std::num::wrapping_add_usize(w.differ, replay::one_if(w.at < s.len())));
     r.factors = w.factors;
@@ -197,7 +218,16 @@ fn run_sequence(s: &[u8]) -> Replayed {
     if replay::area(n, n) != count {
         return differing(1);
     }
-    run_steps(s, first.at, &q[..count], n, originals, replay::byte(s, 3))
+    let mut l = [0.0; 1024];
+    run_steps(
+        s,
+        first.at,
+        &q[..count],
+        n,
+        originals,
+        replay::byte(s, 3),
+        &mut l,
+    )
 }
 
 // The outcome byte is at a place.

@@ -11,7 +11,7 @@ slice-aggregate-all-placed c = sym (length-take-le _ _ (omega arith))
 
 returns : tie.Need-returns
 unfolding started
-returns c = rw (c .new .ensures, c .before .all-placed .ensures .0, c .before .before .before .all-held .ensures)
+returns c = rw (c .all-placed .ensures .0, c .before .before .all-held .ensures)
 
 pub started-spec : {M : Type 1} → statement M
 started-spec =
@@ -21,5 +21,4 @@ started-spec =
     (λ c. search needs)
     slice-aggregate-all-placed
     (λ c κs. (search needs, omega (arith, slice-aggregate-all-placed c), c .before .before .before .pre .2))  -- all-placed-requires
-    (λ c κs. search needs)
     returns)

@@ -13,7 +13,7 @@ returns c =
     let e = c .ended .ensures in
     let i = e .1 ∙ c .before .with-board .ensures in (
       λ m. passed-more (s .args .n) m (c .ended .result) (e .0) ∙ rw (i, b .stopped .ensures .0),
-      λ originals kept. rw i (board-kept originals (s .args .n) (s .args .segments) (s .args .iterate) _ _ (b .stopped .ensures .1) kept),
+      rw i (board-kept (s .args .n) (s .args .segments) (s .args .iterate) _ _ (b .stopped .ensures .1)),
     )
 
 pub blocked-spec : {M : Type 1} → statement M

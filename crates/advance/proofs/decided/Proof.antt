@@ -52,7 +52,7 @@ returns c =
       passed-more (s .args .n) (s .args .m) (c .ended .result) (e .0)
           ∙ rw (i, ← k .before .before .before .release .ensures, k .before .outcome .given .1, c .before .before .entered .ensures),
       rw (i, c .before .before .entered .ensures)
-          (board-kept (s .args .originals) (s .args .n) (s .args .segments) (s .args .iterate) _ _ placed (s .pre .3)),
+          (board-kept (s .args .n) (s .args .segments) (s .args .iterate) _ _ placed),
     )
 
 returns-2 : tie.Need-returns-2
@@ -62,7 +62,7 @@ returns-2 c =
     let w = c .with-board2 .ensures in (
       passed-optimal (s .args .n) (s .args .m) _ refl
           ∙ rw (w, ← c .before .before .before .release .ensures, c .before .enum-told .given .1),
-      rw w (board-kept (s .args .originals) (s .args .n) (s .args .segments) (s .args .iterate) (s .args .board) _ (s .pre .2) (s .pre .3)),
+      rw w (board-kept (s .args .n) (s .args .segments) (s .args .iterate) (s .args .board) _ (s .pre .2)),
     )
 
 returns-3 : tie.Need-returns-3

@@ -5,8 +5,8 @@ use Rattle.free_solve.proofs.after_update.Tie as tie
 
 abbrev start : tie.After-from-factor-arg2 → tie.Start
 start c =
-    let s = c .before .before .before .before in
-    s .before .before .before .before .before .before .before .before .before .before .before .before .before .before
+    let s = c .before .before .before .before .before in
+    s .before .before .before .before .before .before .before .before .before .before .before .before
 
 abbrev asked : tie.After-multipliers → tie.After-from-factor
 asked c = c .before .before .before .before .before .before
@@ -41,17 +41,16 @@ otherwise-requires c κs =
 returns-2 : tie.Need-returns-2
 returns-2 c =
     let t = missed c in
-    after-missed _ _ _ _ _ _ (asked (t .before) .from-factor .ensures) (t .if1 .left) (called c .otherwise .ensures)
+    after-missed _ _ _ _ _ _ _ (asked (t .before) .from-factor .ensures) (t .if1 .left) (called c .otherwise .ensures _)
 
 pub after-update-spec : {M : Type 1} → statement M
 after-update-spec =
     tie.close
     (tie.spec
-    (λ c. search kit)  -- slice-aggregate-from-factor
     from-factor-requires
     (λ c. search kit)  -- same-length
     (λ c. search kit)  -- same-length-2
-    (λ c. after-found _ _ _ _ _ _ (asked (c .before) .from-factor .ensures) (c .if1 .taken))  -- returns
+    (λ c. after-found _ _ _ _ _ _ _ (asked (c .before) .from-factor .ensures) (c .if1 .taken))  -- returns
     otherwise-requires
     (λ c. omega (arith, asked (missed c .before) .from-factor .kept))  -- same-length-3
     (λ c. called c .otherwise .kept .1 .1 .1 .1 .1 .1 .1 .1 .0)  -- same-length-4

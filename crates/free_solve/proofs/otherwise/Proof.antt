@@ -27,4 +27,4 @@ otherwise-spec =
     (λ c. search kit)  -- same-length-8
     (λ c. search kit)  -- same-length-9
     (λ c. let s = solved (c .before .before .before) in
-    otherwise-from _ _ _ _ _ _ (s .solve-noisy-kkt .ensures) (c .reset .ensures)))  -- returns
+    λ l. otherwise-from _ l _ _ _ _ _ (s .solve-noisy-kkt .ensures) (c .reset .ensures)))  -- returns

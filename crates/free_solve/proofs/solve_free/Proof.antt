@@ -1,32 +1,35 @@
-use Rattle.folds.specs.Kit.{_≡_, arith, length, kit}
-use Rattle.scaled.specs.System.{square-fits}
+use Rattle.folds.specs.Kit.{_≤_, arith, length, kit}
+use Rattle.folds.specs.Cell.{area}
+use Rattle.factor.specs.Laws.{listed-few}
 use Rattle.free_solve.specs.Laws.{good-left, free-from, good-solve, regular-from}
 use Rattle.free_solve.proofs.solve_free.Statement.{statement}
 use Rattle.free_solve.proofs.solve_free.Tie as tie
 
-abbrev start : tie.After-update-arg → tie.Start
+abbrev start : tie.After-update-arg2 → tie.Start
 start c =
-    let s = c .before .before .before .before .before .before .before in
-    s .before .before .before .before .before .before .before .before .before .before .before
+    let s = c .before .before .before .before .before .before .before .before in
+    s .before .before .before .before .before .before .before .before .before .before .before .before
 
-abbrev called : tie.After-slice-known22 → tie.After-after-update
+abbrev called : tie.After-slice-known24 → tie.After-after-update
 called c =
     let s = c .before .before .before .before .before .before .before .before in
     s .before .before .before .before .before .before .before .before .before .before .before .before
 
 abbrev updated : tie.After-after-update → tie.After-update
-updated c = c .before .before .before .before .before .before .before .before .before .before .before .before .before
+updated c = c .before .before .before .before .before .before .before .before .before .before .before .before .before .before .before .before
 
-factor-length : (c : tie.After-update) → length (c .update .result .factor) ≡ 1024
-factor-length c = search kit
+listed : (c : tie.Start) → length (c .args .solved .now) ≤ c .args .originals
+listed c = listed-few (c .args .originals) (c .args .solved .now) (c .pre .1)
 
 after-update-requires : tie.Need-after-update-requires
 after-update-requires c κs =
-    let u = c .before .before .before .before .before .before .before .before .before .before .before .before in
-    let p = start (u .before) .pre in (
-      p .4,
-      regular-from _ (p .0 .few) _ _ _ _ (p .1) (p .2) (u .update .ensures .0) (omega (arith, square-fits (p .4), factor-length u)),
+    let u = c .before .before .before .before .before .before .before .before .before .before .before .before .before .before .before in
+    let s = start (u .before) in
+    let p = s .pre in (
       p .5,
+      regular-from _ (p .0 .few) _ _ _ _ _ (p .1) (p .2) (u .update .ensures .0)
+          (omega (arith, area (listed s) (listed s), p .3, u .update .kept .1 .1 .1 .1 .1 .0)),
+      p .6,
     )
 
 returns : tie.Need-returns
@@ -34,24 +37,26 @@ returns c =
     let a = called c in
     let u = updated a in
     let p = start (u .before) .pre in
-    let e = free-from _ _ _ _ _ _ (u .update .ensures .0) (a .after-update .ensures) in
-    (e, good-left _ _ _ _ e _ (good-solve _ (p .0 .few) _ _ _ _ (p .1) (p .2) _ _))
+    let g = u .update .ensures .0 in
+    let e = free-from _ _ _ _ _ _ _ g (a .after-update .ensures) in
+    (e, good-left _ _ _ _ _ e _ (good-solve _ (p .0 .few) _ _ _ _ _ (p .1) (p .2) g _ _))
 
 pub solve-free-spec : {M : Type 1} → statement M
 solve-free-spec =
     tie.close
     (tie.spec
-    (λ c κs. let p = start c .pre in (p .0, p .1, p .2, p .3))  -- update-requires
+    (λ c κs. let p = start c .pre in (p .0, p .1, p .2, p .3, p .4))  -- update-requires
     after-update-requires
-    (λ c. updated (called c) .update .kept .1 .1 .1 .1 .1 .0)  -- same-length
-    (λ c. called c .after-update .kept .1 .1 .1 .1 .1 .1 .1 .1 .0)  -- same-length-2
-    (λ c. called c .after-update .kept .1 .1 .1 .1 .1 .1 .1 .1 .1 .0)  -- same-length-3
-    (λ c. called c .after-update .kept .1 .1 .1 .1 .1 .1 .1 .1 .1 .1 .0)  -- same-length-4
-    (λ c. called c .after-update .kept .1 .1 .1 .1 .1 .1 .1 .1 .1 .1 .1 .0)  -- same-length-5
-    (λ c. called c .after-update .kept .1 .1 .1 .1 .1 .1 .1 .1 .1 .1 .1 .1 .0)  -- same-length-6
-    (λ c. called c .after-update .kept .1 .1 .1 .1 .1 .1 .1 .1 .1 .1 .1 .1 .1 .0)  -- same-length-7
-    (λ c. called c .after-update .kept .1 .1 .1 .1 .1 .1 .1 .1 .1 .1 .1 .1 .1 .1 .0)  -- same-length-8
-    (λ c. called c .after-update .kept .1 .1 .1 .1 .1 .1 .1 .1 .1 .1 .1 .1 .1 .1 .1 .0)  -- same-length-9
-    (λ c. called c .after-update .kept .1 .1 .1 .1 .1 .1 .1 .1 .1 .1 .1 .1 .1 .1 .1 .1 .0)  -- same-length-10
-    (λ c. called c .after-update .kept .1 .1 .1 .1 .1 .1 .1 .1 .1 .1 .1 .1 .1 .1 .1 .1 .1 .0)  -- same-length-11
+    (λ c. updated (called c) .update .kept .1 .1 .1 .1 .1 .1 .0)  -- same-length
+    (λ c. called c .after-update .kept .1 .1 .1 .1 .1 .1 .1 .1 .1 .0)  -- same-length-2
+    (λ c. called c .after-update .kept .1 .1 .1 .1 .1 .1 .1 .1 .1 .1 .0)  -- same-length-3
+    (λ c. called c .after-update .kept .1 .1 .1 .1 .1 .1 .1 .1 .1 .1 .1 .0)  -- same-length-4
+    (λ c. called c .after-update .kept .1 .1 .1 .1 .1 .1 .1 .1 .1 .1 .1 .1 .0)  -- same-length-5
+    (λ c. called c .after-update .kept .1 .1 .1 .1 .1 .1 .1 .1 .1 .1 .1 .1 .1 .0)  -- same-length-6
+    (λ c. called c .after-update .kept .1 .1 .1 .1 .1 .1 .1 .1 .1 .1 .1 .1 .1 .1 .0)  -- same-length-7
+    (λ c. called c .after-update .kept .1 .1 .1 .1 .1 .1 .1 .1 .1 .1 .1 .1 .1 .1 .1 .0)  -- same-length-8
+    (λ c. called c .after-update .kept .1 .1 .1 .1 .1 .1 .1 .1 .1 .1 .1 .1 .1 .1 .1 .1 .0)  -- same-length-9
+    (λ c. called c .after-update .kept .1 .1 .1 .1 .1 .1 .1 .1 .1 .1 .1 .1 .1 .1 .1 .1 .1 .0)  -- same-length-10
+    (λ c. called c .after-update .kept .1 .1 .1 .1 .1 .1 .1 .1 .1 .1 .1 .1 .1 .1 .1 .1 .1 .1 .0)  -- same-length-11
+    (λ c. updated (called c) .update .kept .1 .1 .1 .1 .1 .0)  -- same-length-12
     returns)

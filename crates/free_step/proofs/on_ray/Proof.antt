@@ -64,7 +64,7 @@ returns c =
         s .pre .2 .counted,
       )
           (c .along .ensures .0 (s .args .m)),
-      c .along .ensures .1 (s .args .originals) (s .pre .1),
+      c .along .ensures .1,
     )
 
 returns-2 : tie.Need-returns-2

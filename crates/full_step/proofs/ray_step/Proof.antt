@@ -15,7 +15,7 @@ returns c =
     let s = r .before .before .before .before .before .before in
     let e = c .ended .ensures in (
       λ m. passed-unbounded (s .args .n) m (c .ended .result) (e .0) ∙ rw (← r .ratio-test .ensures, c .before .enum-told .given .1),
-      λ originals kept. rw (e .1) kept,
+      rw (e .1) (record { placed = s .pre .2 }),
     )
 
 blocked-requires : tie.Need-blocked-requires

@@ -107,7 +107,7 @@ returns-2 c =
     let s = start b in (
       rw (← b .before .step-tolerance .ensures, ← b .blocking .ensures, h .hit .given .1, ← c .before .before .sub .ensures)
           (c .blocked .ensures .0 (s .args .m)),
-      c .blocked .ensures .1 (s .args .originals) (s .pre .2),
+      c .blocked .ensures .1,
     )
 
 pub stepped-spec : {M : Type 1} → statement M

@@ -11,12 +11,12 @@ use Rattle.pass.proofs.pass.Tie as tie
 abbrev start : tie.After-indices → tie.Start
 start c =
     let s = c .before .before .before .before .before .before .before .before .before .before .before .before in
-    s .before .before .before .before .before .before .before .before .before
+    s .before .before .before .before .before .before .before .before .before .before
 
-abbrev called : tie.After-slice-known26 → tie.After-with-indices
+abbrev called : tie.After-slice-known28 → tie.After-with-indices
 called c =
     let s = c .before .before .before .before .before .before .before .before .before .before .before .before in
-    s .before .before .before .before .before .before .before .before .before .before .before .before .before .before
+    s .before .before .before .before .before .before .before .before .before .before .before .before .before .before .before .before
 
 few : (c : tie.Start) → length (freeIndices (c .args .n) (c .args .iterate .board .state)) ≤ 48
 few c = le-trans (free-few _ _) (c .pre .0 .variables)
@@ -34,9 +34,9 @@ slice-aggregate-with-indices c = sym (length-take-le _ _ (fits (c .before .befor
 
 with-indices-requires : tie.Need-with-indices-requires
 with-indices-requires c κs =
-    let p = (start (c .before .before .before .before .before .before .before .before .before .before .before .before .before .before .before .before)) .pre in
-    let e = (c .before .before .before .before .before .before .before .before .before .before .before .before .before .before .before) .free-indices .ensures in
-    (p .0, p .1, p .2, p .3, taken-over _ _ (sym (e .0)) (e .1), p .4)
+    let p = start (c .before .before .before .before .before .before .before .before .before .before .before .before .before .before .before .before .before) .pre in
+    let e = c .before .before .before .before .before .before .before .before .before .before .before .before .before .before .before .before .free-indices .ensures in
+    (p .0, p .1, p .2, p .3, taken-over _ _ (sym (e .0)) (e .1), p .4, p .5, p .6)
 
 pub pass-spec : {M : Type 1} → statement M
 pass-spec =
@@ -47,17 +47,18 @@ pass-spec =
     (λ c. fits (c .before))  -- array-share-prefix-indices
     slice-aggregate-with-indices
     with-indices-requires
-    (λ c. called c .with-indices .kept .1 .1 .1 .1 .1 .1 .1 .1 .1 .1 .1 .1 .1 .0)  -- same-length
-    (λ c. called c .with-indices .kept .1 .1 .1 .1 .1 .1 .1 .1 .1 .1 .1 .1 .1 .1 .0)  -- same-length-2
-    (λ c. called c .with-indices .kept .1 .1 .1 .1 .1 .1 .1 .1 .1 .1 .1 .1 .1 .1 .1 .0)  -- same-length-3
-    (λ c. called c .with-indices .kept .1 .1 .1 .1 .1 .1 .1 .1 .1 .1 .1 .1 .1 .1 .1 .1 .0)  -- same-length-4
-    (λ c. called c .with-indices .kept .1 .1 .1 .1 .1 .1 .1 .1 .1 .1 .1 .1 .1 .1 .1 .1 .1 .0)  -- same-length-5
-    (λ c. called c .with-indices .kept .1 .1 .1 .1 .1 .1 .1 .1 .1 .1 .1 .1 .1 .1 .1 .1 .1 .1 .0)  -- same-length-6
-    (λ c. called c .with-indices .kept .1 .1 .1 .1 .1 .1 .1 .1 .1 .1 .1 .1 .1 .1 .1 .1 .1 .1 .1 .0)  -- same-length-7
-    (λ c. called c .with-indices .kept .1 .1 .1 .1 .1 .1 .1 .1 .1 .1 .1 .1 .1 .1 .1 .1 .1 .1 .1 .1 .0)  -- same-length-8
-    (λ c. called c .with-indices .kept .1 .1 .1 .1 .1 .1 .1 .1 .1 .1 .1 .1 .1 .1 .1 .1 .1 .1 .1 .1 .1 .0)  -- same-length-9
-    (λ c. called c .with-indices .kept .1 .1 .1 .1 .1 .1 .1 .1 .1 .1 .1 .1 .1 .1 .1 .1 .1 .1 .1 .1 .1 .1 .0)  -- same-length-10
-    (λ c. called c .with-indices .kept .1 .1 .1 .1 .1 .1 .1 .1 .1 .1 .1 .1 .1 .1 .1 .1 .1 .1 .1 .1 .1 .1 .1 .0)  -- same-length-11
-    (λ c. called c .with-indices .kept .1 .1 .1 .1 .1 .1 .1 .1 .1 .1 .1 .1 .1 .1 .1 .1 .1 .1 .1 .1 .1 .1 .1 .1 .0)  -- same-length-12
-    (λ c. called c .with-indices .kept .1 .1 .1 .1 .1 .1 .1 .1 .1 .1 .1 .1 .1 .1 .1 .1 .1 .1 .1 .1 .1 .1 .1 .1 .1 .0)  -- same-length-13
+    (λ c. called c .with-indices .kept .1 .1 .1 .1 .1 .1 .1 .1 .1 .1 .1 .1 .1 .1 .0)  -- same-length
+    (λ c. called c .with-indices .kept .1 .1 .1 .1 .1 .1 .1 .1 .1 .1 .1 .1 .1 .1 .1 .0)  -- same-length-2
+    (λ c. called c .with-indices .kept .1 .1 .1 .1 .1 .1 .1 .1 .1 .1 .1 .1 .1 .1 .1 .1 .0)  -- same-length-3
+    (λ c. called c .with-indices .kept .1 .1 .1 .1 .1 .1 .1 .1 .1 .1 .1 .1 .1 .1 .1 .1 .1 .0)  -- same-length-4
+    (λ c. called c .with-indices .kept .1 .1 .1 .1 .1 .1 .1 .1 .1 .1 .1 .1 .1 .1 .1 .1 .1 .1 .0)  -- same-length-5
+    (λ c. called c .with-indices .kept .1 .1 .1 .1 .1 .1 .1 .1 .1 .1 .1 .1 .1 .1 .1 .1 .1 .1 .1 .0)  -- same-length-6
+    (λ c. called c .with-indices .kept .1 .1 .1 .1 .1 .1 .1 .1 .1 .1 .1 .1 .1 .1 .1 .1 .1 .1 .1 .1 .0)  -- same-length-7
+    (λ c. called c .with-indices .kept .1 .1 .1 .1 .1 .1 .1 .1 .1 .1 .1 .1 .1 .1 .1 .1 .1 .1 .1 .1 .1 .0)  -- same-length-8
+    (λ c. called c .with-indices .kept .1 .1 .1 .1 .1 .1 .1 .1 .1 .1 .1 .1 .1 .1 .1 .1 .1 .1 .1 .1 .1 .1 .0)  -- same-length-9
+    (λ c. called c .with-indices .kept .1 .1 .1 .1 .1 .1 .1 .1 .1 .1 .1 .1 .1 .1 .1 .1 .1 .1 .1 .1 .1 .1 .1 .0)  -- same-length-10
+    (λ c. called c .with-indices .kept .1 .1 .1 .1 .1 .1 .1 .1 .1 .1 .1 .1 .1 .1 .1 .1 .1 .1 .1 .1 .1 .1 .1 .1 .0)  -- same-length-11
+    (λ c. called c .with-indices .kept .1 .1 .1 .1 .1 .1 .1 .1 .1 .1 .1 .1 .1 .1 .1 .1 .1 .1 .1 .1 .1 .1 .1 .1 .1 .0)  -- same-length-12
+    (λ c. called c .with-indices .kept .1 .1 .1 .1 .1 .1 .1 .1 .1 .1 .1 .1 .1 .1 .1 .1 .1 .1 .1 .1 .1 .1 .1 .1 .1 .1 .0)  -- same-length-13
+    (λ c. called c .with-indices .kept .1 .1 .1 .1 .1 .1 .1 .1 .1 .1 .1 .1 .1 .1 .1 .1 .1 .1 .1 .1 .1 .1 .1 .1 .1 .1 .1 .0)  -- same-length-14
     (λ c. called c .with-indices .ensures))  -- returns

@@ -13,7 +13,7 @@ use Rattle.pass.proofs.with_free.Tie as tie
 abbrev start : tie.After-slope → tie.Start
 start c =
     let s = c .before .before .before .before .before .before .before .before .before .before .before .before in
-    s .before .before .before .before .before .before .before .before .before .before .before .before .before
+    s .before .before .before .before .before .before .before .before .before .before .before .before .before .before
 
 abbrev sloped : tie.After-gather → tie.After-slopes
 sloped c = c .before .before .before .before .before .before .before
@@ -21,12 +21,12 @@ sloped c = c .before .before .before .before .before .before .before
 abbrev gathered : tie.After-with-gathered → tie.After-gather
 gathered c =
     let s = c .before .before .before .before .before .before .before .before .before .before .before .before in
-    s .before .before .before .before .before .before .before .before
+    s .before .before .before .before .before .before .before .before .before
 
-abbrev called : tie.After-slice-known27 → tie.After-with-gathered
+abbrev called : tie.After-slice-known29 → tie.After-with-gathered
 called c =
     let s = c .before .before .before .before .before .before .before .before .before .before .before .before in
-    s .before .before .before .before .before .before .before .before .before .before
+    s .before .before .before .before .before .before .before .before .before .before .before .before
 
 solved-few : (c : tie.Start) → length (c .args .solved .now) ≤ c .args .originals
 solved-few c = listed-few _ _ (c .pre .5)
@@ -71,7 +71,7 @@ gather-requires c κs =
 
 with-gathered-requires : tie.Need-with-gathered-requires
 with-gathered-requires c κs =
-    let g = (c .before .before .before .before .before .before .before .before .before .before .before .before .before .before .before .before .before .before .before) in
+    let g = c .before .before .before .before .before .before .before .before .before .before .before .before .before .before .before .before .before .before .before .before in
     let s = start (sloped g .before) in
     let p = s .pre in
     let r = p .6 in
@@ -102,6 +102,8 @@ with-gathered-requires c κs =
         tall = record { left-room = r .left-room; coefficients-room = r .coefficients-room; range-room = r .range-room };
         squares = record { q-room = r .qq-room; null-room = r .null-room; h-room = r .h-room; vectors-room = r .vectors-room };
       },
+      p .7,
+      p .8,
     )
 
 returns : tie.Need-returns
@@ -110,7 +112,7 @@ returns c =
     let g = gathered w in
     let s = start (sloped g .before) in
     let e = w .with-gathered .ensures in (
-      free-from _ _ _ _ _ _ _ _ _ _ _ _ _ _ (g .gather .ensures .0) (taken-over _ _ (length-entries _ _ _ _ _) (sloped g .slopes .ensures))
+      free-from _ _ _ _ _ _ _ _ _ _ _ _ _ _ _ _ (g .gather .ensures .0) (taken-over _ _ (length-entries _ _ _ _ _) (sloped g .slopes .ensures))
           (e .0 (s .args .b .now)),
       e .1,
     )
@@ -127,17 +129,18 @@ with-free-spec =
     slice-aggregate-gather-2
     gather-requires
     with-gathered-requires
-    (λ c. let w = called c in w .with-gathered .kept .1 .1 .1 .1 .1 .1 .1 .1 .1 .1 .1 .1 .1 .1 .1 .1 .1 .0 ∙ gathered w .gather .kept .1 .1 .1 .1 .1 .1 .1 .1 .1 .1 .1 .0)  -- same-length
+    (λ c. let w = called c in w .with-gathered .kept .1 .1 .1 .1 .1 .1 .1 .1 .1 .1 .1 .1 .1 .1 .1 .1 .1 .1 .0 ∙ gathered w .gather .kept .1 .1 .1 .1 .1 .1 .1 .1 .1 .1 .1 .0)  -- same-length
     (λ c. gathered (called c) .gather .kept .1 .1 .1 .1 .1 .1 .1 .1 .1 .1 .1 .1 .0)  -- same-length-2
     (λ c. gathered (called c) .gather .kept .1 .1 .1 .1 .1 .1 .1 .1 .1 .1 .1 .1 .1 .0)  -- same-length-3
-    (λ c. called c .with-gathered .kept .1 .1 .1 .1 .1 .1 .1 .1 .1 .1 .1 .1 .1 .1 .1 .1 .1 .1 .0)  -- same-length-4
-    (λ c. called c .with-gathered .kept .1 .1 .1 .1 .1 .1 .1 .1 .1 .1 .1 .1 .1 .1 .1 .1 .1 .1 .1 .0)  -- same-length-5
-    (λ c. called c .with-gathered .kept .1 .1 .1 .1 .1 .1 .1 .1 .1 .1 .1 .1 .1 .1 .1 .1 .1 .1 .1 .1 .0)  -- same-length-6
-    (λ c. called c .with-gathered .kept .1 .1 .1 .1 .1 .1 .1 .1 .1 .1 .1 .1 .1 .1 .1 .1 .1 .1 .1 .1 .1 .0)  -- same-length-7
-    (λ c. called c .with-gathered .kept .1 .1 .1 .1 .1 .1 .1 .1 .1 .1 .1 .1 .1 .1 .1 .1 .1 .1 .1 .1 .1 .1 .0)  -- same-length-8
-    (λ c. called c .with-gathered .kept .1 .1 .1 .1 .1 .1 .1 .1 .1 .1 .1 .1 .1 .1 .1 .1 .1 .1 .1 .1 .1 .1 .1 .0)  -- same-length-9
-    (λ c. called c .with-gathered .kept .1 .1 .1 .1 .1 .1 .1 .1 .1 .1 .1 .1 .1 .1 .1 .1 .1 .1 .1 .1 .1 .1 .1 .1 .0)  -- same-length-10
-    (λ c. called c .with-gathered .kept .1 .1 .1 .1 .1 .1 .1 .1 .1 .1 .1 .1 .1 .1 .1 .1 .1 .1 .1 .1 .1 .1 .1 .1 .1 .0)  -- same-length-11
-    (λ c. called c .with-gathered .kept .1 .1 .1 .1 .1 .1 .1 .1 .1 .1 .1 .1 .1 .1 .1 .1 .1 .1 .1 .1 .1 .1 .1 .1 .1 .1 .0)  -- same-length-12
-    (λ c. called c .with-gathered .kept .1 .1 .1 .1 .1 .1 .1 .1 .1 .1 .1 .1 .1 .1 .1 .1 .1 .1 .1 .1 .1 .1 .1 .1 .1 .1 .1 .0)  -- same-length-13
+    (λ c. called c .with-gathered .kept .1 .1 .1 .1 .1 .1 .1 .1 .1 .1 .1 .1 .1 .1 .1 .1 .1 .1 .1 .0)  -- same-length-4
+    (λ c. called c .with-gathered .kept .1 .1 .1 .1 .1 .1 .1 .1 .1 .1 .1 .1 .1 .1 .1 .1 .1 .1 .1 .1 .0)  -- same-length-5
+    (λ c. called c .with-gathered .kept .1 .1 .1 .1 .1 .1 .1 .1 .1 .1 .1 .1 .1 .1 .1 .1 .1 .1 .1 .1 .1 .0)  -- same-length-6
+    (λ c. called c .with-gathered .kept .1 .1 .1 .1 .1 .1 .1 .1 .1 .1 .1 .1 .1 .1 .1 .1 .1 .1 .1 .1 .1 .1 .0)  -- same-length-7
+    (λ c. called c .with-gathered .kept .1 .1 .1 .1 .1 .1 .1 .1 .1 .1 .1 .1 .1 .1 .1 .1 .1 .1 .1 .1 .1 .1 .1 .0)  -- same-length-8
+    (λ c. called c .with-gathered .kept .1 .1 .1 .1 .1 .1 .1 .1 .1 .1 .1 .1 .1 .1 .1 .1 .1 .1 .1 .1 .1 .1 .1 .1 .0)  -- same-length-9
+    (λ c. called c .with-gathered .kept .1 .1 .1 .1 .1 .1 .1 .1 .1 .1 .1 .1 .1 .1 .1 .1 .1 .1 .1 .1 .1 .1 .1 .1 .1 .0)  -- same-length-10
+    (λ c. called c .with-gathered .kept .1 .1 .1 .1 .1 .1 .1 .1 .1 .1 .1 .1 .1 .1 .1 .1 .1 .1 .1 .1 .1 .1 .1 .1 .1 .1 .0)  -- same-length-11
+    (λ c. called c .with-gathered .kept .1 .1 .1 .1 .1 .1 .1 .1 .1 .1 .1 .1 .1 .1 .1 .1 .1 .1 .1 .1 .1 .1 .1 .1 .1 .1 .1 .0)  -- same-length-12
+    (λ c. called c .with-gathered .kept .1 .1 .1 .1 .1 .1 .1 .1 .1 .1 .1 .1 .1 .1 .1 .1 .1 .1 .1 .1 .1 .1 .1 .1 .1 .1 .1 .1 .0)  -- same-length-13
+    (λ c. called c .with-gathered .kept .1 .1 .1 .1 .1 .1 .1 .1 .1 .1 .1 .1 .1 .1 .1 .1 .1 .1 .1 .1 .1 .1 .1 .1 .1 .1 .1 .1 .1 .0)  -- same-length-14
     returns)

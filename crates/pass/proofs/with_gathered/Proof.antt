@@ -10,20 +10,20 @@ use Rattle.pass.specs.Laws.{still, within, gathered-from}
 use Rattle.pass.proofs.with_gathered.Statement.{statement}
 use Rattle.pass.proofs.with_gathered.Tie as tie
 
-abbrev start : tie.After-slice-known11 → tie.Start
+abbrev start : tie.After-slice-known12 → tie.Start
 start c =
     let s = c .before .before .before .before .before .before .before .before .before .before .before .before in
-    s .before .before .before .before .before .before .before .before
+    s .before .before .before .before .before .before .before .before .before
 
-abbrev lent : tie.After-with-problem-arg13 → tie.After-slice-known11
+abbrev lent : tie.After-with-problem-arg14 → tie.After-slice-known12
 lent c =
     let s = c .before .before .before .before .before .before .before .before .before .before .before .before in
-    s .before .before .before .before .before .before .before .before .before .before .before
+    s .before .before .before .before .before .before .before .before .before .before .before .before
 
-abbrev called : tie.After-slice-known22 → tie.After-with-problem
+abbrev called : tie.After-slice-known24 → tie.After-with-problem
 called c =
     let s = c .before .before .before .before .before .before .before .before .before .before .before .before in
-    s .before .before .before .before .before .before .before .before .before .before
+    s .before .before .before .before .before .before .before .before .before .before .before .before
 
 solved-few : (c : tie.Start) → length (c .args .solved .now) ≤ c .args .originals
 solved-few c = listed-few _ _ (c .pre .5)
@@ -35,7 +35,7 @@ few c = le-trans (solved-few c) (c .pre .6)
 lengths : (c : tie.Start) → let f = c .args .free in
     (length (f .kept) ≡ 24) × (length (f .c) ≡ 48) × (length (f .gradient) ≡ 48) × (length (f .residuals) ≡ 48) × (length (f .residual) ≡ 48)
 lengths c =
-    let g = c .good .1 .1 .1 .1 .1 .1 .1 .1 .1 .1 .1 .1 .1 .1 .0 .1 .1 in (
+    let g = c .good .1 .1 .1 .1 .1 .1 .1 .1 .1 .1 .1 .1 .1 .1 .1 .0 .1 .1 in (
       (let h = g .1 .1 .1 .0 in search (needs, length-mapped)),
       (let h = g .0 in search needs),
       (let h = g .1 .0 in search needs),
@@ -116,12 +116,14 @@ with-problem-requires c κs =
       },
       still (length-take-le _ _ (residual-fits s)) (within columns (le-refl _)),
       workspace-for (solved-few s) (within columns (p .7)) (p .12),
+      p .13,
+      p .14,
     )
 
 returns : tie.Need-returns
 returns c =
     let e = called c .with-problem .ensures in
-    (λ b. gathered-from _ _ _ _ _ _ b _ _ _ _ _ _ _ _ _ _ _ refl (e .0 b), e .1)
+    (λ b. gathered-from _ _ _ _ _ _ b _ _ _ _ _ _ _ _ _ _ _ _ _ refl (e .0 b), e .1)
 
 pub with-gathered-spec : {M : Type 1} → statement M
 with-gathered-spec =
@@ -142,15 +144,16 @@ with-gathered-spec =
     (λ c. residual-fits (start (c .before .before .before .before .before .before .before .before .before .before .before)))  -- array-share-prefix-residual
     slice-aggregate-with-problem-7
     with-problem-requires
-    (λ c. called c .with-problem .kept .1 .1 .1 .1 .1 .1 .1 .1 .1 .1 .1 .1 .1 .1 .1 .1 .1 .1 .1 .1 .1 .1 .0)  -- same-length
-    (λ c. called c .with-problem .kept .1 .1 .1 .1 .1 .1 .1 .1 .1 .1 .1 .1 .1 .1 .1 .1 .1 .1 .1 .1 .1 .1 .1 .0)  -- same-length-2
-    (λ c. called c .with-problem .kept .1 .1 .1 .1 .1 .1 .1 .1 .1 .1 .1 .1 .1 .1 .1 .1 .1 .1 .1 .1 .1 .1 .1 .1 .0)  -- same-length-3
-    (λ c. called c .with-problem .kept .1 .1 .1 .1 .1 .1 .1 .1 .1 .1 .1 .1 .1 .1 .1 .1 .1 .1 .1 .1 .1 .1 .1 .1 .1 .0)  -- same-length-4
-    (λ c. called c .with-problem .kept .1 .1 .1 .1 .1 .1 .1 .1 .1 .1 .1 .1 .1 .1 .1 .1 .1 .1 .1 .1 .1 .1 .1 .1 .1 .1 .0)  -- same-length-5
-    (λ c. called c .with-problem .kept .1 .1 .1 .1 .1 .1 .1 .1 .1 .1 .1 .1 .1 .1 .1 .1 .1 .1 .1 .1 .1 .1 .1 .1 .1 .1 .1 .0)  -- same-length-6
-    (λ c. called c .with-problem .kept .1 .1 .1 .1 .1 .1 .1 .1 .1 .1 .1 .1 .1 .1 .1 .1 .1 .1 .1 .1 .1 .1 .1 .1 .1 .1 .1 .1 .0)  -- same-length-7
-    (λ c. called c .with-problem .kept .1 .1 .1 .1 .1 .1 .1 .1 .1 .1 .1 .1 .1 .1 .1 .1 .1 .1 .1 .1 .1 .1 .1 .1 .1 .1 .1 .1 .1 .0)  -- same-length-8
-    (λ c. called c .with-problem .kept .1 .1 .1 .1 .1 .1 .1 .1 .1 .1 .1 .1 .1 .1 .1 .1 .1 .1 .1 .1 .1 .1 .1 .1 .1 .1 .1 .1 .1 .1 .0)  -- same-length-9
-    (λ c. called c .with-problem .kept .1 .1 .1 .1 .1 .1 .1 .1 .1 .1 .1 .1 .1 .1 .1 .1 .1 .1 .1 .1 .1 .1 .1 .1 .1 .1 .1 .1 .1 .1 .1 .0)  -- same-length-10
-    (λ c. called c .with-problem .kept .1 .1 .1 .1 .1 .1 .1 .1 .1 .1 .1 .1 .1 .1 .1 .1 .1 .1 .1 .1 .1 .1 .1 .1 .1 .1 .1 .1 .1 .1 .1 .1 .0)  -- same-length-11
+    (λ c. called c .with-problem .kept .1 .1 .1 .1 .1 .1 .1 .1 .1 .1 .1 .1 .1 .1 .1 .1 .1 .1 .1 .1 .1 .1 .1 .0)  -- same-length
+    (λ c. called c .with-problem .kept .1 .1 .1 .1 .1 .1 .1 .1 .1 .1 .1 .1 .1 .1 .1 .1 .1 .1 .1 .1 .1 .1 .1 .1 .0)  -- same-length-2
+    (λ c. called c .with-problem .kept .1 .1 .1 .1 .1 .1 .1 .1 .1 .1 .1 .1 .1 .1 .1 .1 .1 .1 .1 .1 .1 .1 .1 .1 .1 .0)  -- same-length-3
+    (λ c. called c .with-problem .kept .1 .1 .1 .1 .1 .1 .1 .1 .1 .1 .1 .1 .1 .1 .1 .1 .1 .1 .1 .1 .1 .1 .1 .1 .1 .1 .0)  -- same-length-4
+    (λ c. called c .with-problem .kept .1 .1 .1 .1 .1 .1 .1 .1 .1 .1 .1 .1 .1 .1 .1 .1 .1 .1 .1 .1 .1 .1 .1 .1 .1 .1 .1 .0)  -- same-length-5
+    (λ c. called c .with-problem .kept .1 .1 .1 .1 .1 .1 .1 .1 .1 .1 .1 .1 .1 .1 .1 .1 .1 .1 .1 .1 .1 .1 .1 .1 .1 .1 .1 .1 .0)  -- same-length-6
+    (λ c. called c .with-problem .kept .1 .1 .1 .1 .1 .1 .1 .1 .1 .1 .1 .1 .1 .1 .1 .1 .1 .1 .1 .1 .1 .1 .1 .1 .1 .1 .1 .1 .1 .0)  -- same-length-7
+    (λ c. called c .with-problem .kept .1 .1 .1 .1 .1 .1 .1 .1 .1 .1 .1 .1 .1 .1 .1 .1 .1 .1 .1 .1 .1 .1 .1 .1 .1 .1 .1 .1 .1 .1 .0)  -- same-length-8
+    (λ c. called c .with-problem .kept .1 .1 .1 .1 .1 .1 .1 .1 .1 .1 .1 .1 .1 .1 .1 .1 .1 .1 .1 .1 .1 .1 .1 .1 .1 .1 .1 .1 .1 .1 .1 .0)  -- same-length-9
+    (λ c. called c .with-problem .kept .1 .1 .1 .1 .1 .1 .1 .1 .1 .1 .1 .1 .1 .1 .1 .1 .1 .1 .1 .1 .1 .1 .1 .1 .1 .1 .1 .1 .1 .1 .1 .1 .0)  -- same-length-10
+    (λ c. called c .with-problem .kept .1 .1 .1 .1 .1 .1 .1 .1 .1 .1 .1 .1 .1 .1 .1 .1 .1 .1 .1 .1 .1 .1 .1 .1 .1 .1 .1 .1 .1 .1 .1 .1 .1 .0)  -- same-length-11
+    (λ c. called c .with-problem .kept .1 .1 .1 .1 .1 .1 .1 .1 .1 .1 .1 .1 .1 .1 .1 .1 .1 .1 .1 .1 .1 .1 .1 .1 .1 .1 .1 .1 .1 .1 .1 .1 .1 .1 .0)  -- same-length-12
     returns)

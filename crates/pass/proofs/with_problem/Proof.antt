@@ -1,38 +1,38 @@
 use Rattle.folds.specs.Kit.{_≡_, _≤_, sym, _∙_, arith, length, needs}
 use native.Mathlib.Nat.{le-refl, le-trans}
 use lib.Seq.{length-take-le}
-use Rattle.pass.specs.Laws.{still, factoring-kept, factoring-split, problem-from}
+use Rattle.pass.specs.Pass.{madeOf}
+use Rattle.pass.specs.Laws.{still, problem-from}
 use Rattle.pass.proofs.with_problem.Statement.{statement}
 use Rattle.pass.proofs.with_problem.Tie as tie
 
-abbrev start : tie.After-factoring → tie.Start
+abbrev start : tie.After-solve-free-arg12 → tie.Start
 start c =
     let s = c .before .before .before .before .before .before .before .before .before .before .before .before in
-    s .before .before .before .before .before .before .before .before .before .before .before .before .before .before
+    let t = s .before .before .before .before .before .before .before .before .before .before .before .before in
+    t .before .before .before .before .before .before .before .before .before .before .before .before .before .before
 
-abbrev lent : tie.After-solve-free → tie.After-factoring
-lent c = c .before .before .before .before .before .before .before .before .before .before .before .before
-
-abbrev solve-at : tie.After-with-factoring → tie.After-solve-free
+abbrev solve-at : tie.After-left-factoring → tie.After-solve-free
 solve-at c =
     let s = c .before .before .before .before .before .before .before .before .before .before .before .before in
-    s .before .before .before .before .before .before .before .before .before .before .before .before .before .before
+    s .before .before .before .before .before .before .before .before .before .before .before .before .before .before .before
 
-abbrev called : tie.After-slice-known31 → tie.After-after-solve
+abbrev called : tie.After-slice-known33 → tie.After-after-solve
 called c =
     let s = c .before .before .before .before .before .before .before .before .before .before .before .before in
     s .before .before .before .before .before .before
 
-abbrev made : tie.After-after-solve → tie.After-with-factoring
+abbrev made : tie.After-after-solve → tie.After-left-factoring
 made c = c .before .before .before .before .before .before .before .before .before .before .before .before
 
 solve-free-requires : tie.Need-solve-free-requires
 solve-free-requires c κs =
-    let p = (start (c .before .before .before .before .before .before .before .before .before .before .before)) .pre in
+    let p = start c .pre in
     let l = p .8 in (
       record { few = p .6; within = p .0 .within; q-holds = p .0 .q-holds },
       p .5,
-      p .2 .factor,
+      p .11,
+      p .12,
       p .7,
       record {
         few = l .few;
@@ -51,11 +51,11 @@ x-length c = search needs
 multipliers-length : (c : tie.After-solve-free) → length (c .solve-free .result .multipliers) ≡ 24
 multipliers-length c = search needs
 
-x-fits : (c : tie.After-solve-free) → length ((start (lent c)) .args .solved .now) ≤ length (c .solve-free .result .x)
-x-fits c = still (x-length c) (let l = (start (lent c)) .pre .8 .few in omega arith)
+x-fits : (c : tie.After-solve-free) → length (start (c .before) .args .solved .now) ≤ length (c .solve-free .result .x)
+x-fits c = still (x-length c) (let l = start (c .before) .pre .8 .few in omega arith)
 
-multipliers-fit : (c : tie.After-solve-free) → length ((start (lent c)) .args .kept .now) ≤ length (c .solve-free .result .multipliers)
-multipliers-fit c = still (multipliers-length c) (le-trans ((start (lent c)) .pre .8 .kept-few) ((start (lent c)) .pre .0 .columns))
+multipliers-fit : (c : tie.After-solve-free) → length (start (c .before) .args .kept .now) ≤ length (c .solve-free .result .multipliers)
+multipliers-fit c = still (multipliers-length c) (le-trans (start (c .before) .pre .8 .kept-few) (start (c .before) .pre .0 .columns))
 
 slice-aggregate-after-solve : tie.Need-slice-aggregate-after-solve
 slice-aggregate-after-solve c = sym (length-take-le _ _ (x-fits (solve-at (c .before))))
@@ -67,15 +67,15 @@ after-solve-requires : tie.Need-after-solve-requires
 after-solve-requires c κs =
     let w = (c .before .before .before .before .before .before .before .before .before .before .before) in
     let a = solve-at w in
-    let s = start (lent a) in
+    let s = start (a .before) in
     let p = s .pre in
     let r = p .10 in
     let k = a .solve-free .kept in (
       p .0,
       p .1,
-      factoring-kept _ _ (w .with-factoring .ensures) _ _ _ (p .2) (a .solve-free .ensures .1),
+      p .2,
       p .3,
-      factoring-split _ _ (w .with-factoring .ensures) _ _ _ _ _ _ _ (p .4),
+      p .4,
       p .8,
       still (length-take-le _ _ (x-fits a)) (le-refl _),
       still (length-take-le _ _ (multipliers-fit a)) (le-refl _),
@@ -95,13 +95,13 @@ after-solve-requires c κs =
     )
 
 returns : tie.Need-returns
+unfolding madeOf
 returns c =
     let a = called c in
-    let w = made a in
-    let s = solve-at w in
+    let s = solve-at (made a) in
     let e = a .after-solve .ensures in (
-      λ b. problem-from _ _ _ _ _ _ b _ _ _ _ _ _ _ _ _ _ _ _ _ _ _ (s .solve-free .result) (s .solve-free .ensures .0) (w .with-factoring .ensures) (e .0 b),
-      e .1,
+      λ b. problem-from _ _ _ _ _ _ b _ _ _ _ _ _ _ _ _ _ _ _ _ _ _ _ _ (s .solve-free .result) _ (s .solve-free .ensures .0) (e .0 b),
+      (e .1, s .solve-free .ensures .1),
     )
 
 pub with-problem-spec : {M : Type 1} → statement M
@@ -109,7 +109,6 @@ with-problem-spec =
     tie.close
     (tie.spec
     solve-free-requires
-    (λ c κs. tt)  -- with-factoring-requires
     (λ c. x-fits (solve-at c))  -- array-share-prefix-delta
     slice-aggregate-after-solve
     (λ c. multipliers-fit (solve-at (c .before)))  -- array-share-prefix-multipliers
@@ -126,4 +125,5 @@ with-problem-spec =
     (λ c. let a = called c in a .after-solve .kept .1 .1 .1 .1 .1 .1 .1 .1 .1 .1 .1 .1 .1 .1 .1 .1 .1 .1 .1 .1 .1 .1 .1 .1 .1 .1 .1 .1 .1 .0 ∙ solve-at (made a) .solve-free .kept .1 .1 .1 .1 .1 .1 .1 .1 .1 .1 .1 .1 .1 .1 .1 .1 .1 .1 .1 .0)  -- same-length-9
     (λ c. let a = called c in a .after-solve .kept .1 .1 .1 .1 .1 .1 .1 .1 .1 .1 .1 .1 .1 .1 .1 .1 .1 .1 .1 .1 .1 .1 .1 .1 .1 .1 .1 .1 .1 .1 .0 ∙ solve-at (made a) .solve-free .kept .1 .1 .1 .1 .1 .1 .1 .1 .1 .1 .1 .1 .1 .1 .1 .1 .1 .1 .1 .1 .0)  -- same-length-10
     (λ c. let a = called c in a .after-solve .kept .1 .1 .1 .1 .1 .1 .1 .1 .1 .1 .1 .1 .1 .1 .1 .1 .1 .1 .1 .1 .1 .1 .1 .1 .1 .1 .1 .1 .1 .1 .1 .0 ∙ solve-at (made a) .solve-free .kept .1 .1 .1 .1 .1 .1 .1 .1 .1 .1 .1 .1 .1 .1 .1 .1 .1 .1 .1 .1 .1 .0)  -- same-length-11
+    (λ c. solve-at (made (called c)) .solve-free .kept .1 .1 .1 .1 .1 .1 .1 .1 .1 .1 .1 .1 .1 .1 .1 .1 .1 .1 .1 .1 .1 .1 .0)  -- same-length-12
     returns)

@@ -1,4 +1,5 @@
 use mathlib.Core.Path.{sym}
+use native.Mathlib.Nat.{mul-le-mul}
 use native.Mathlib.Omega.{arith}
 use lib.Seq.{length-take-le}
 use borrow.Author.Needs.{needs}
@@ -10,13 +11,15 @@ slice-aggregate-run-steps c = sym (length-take-le _ _ (omega arith))
 
 run-steps-requires : tie.Need-run-steps-requires
 run-steps-requires c κs =
-    let k = c .before .before .before .before in (
+    let k = c .before .before .before .before .before in
+    let few = k .before .if2 .left in (
       record {
-        few = k .before .if2 .left;
+        few = few;
         within = k .if3 .left;
-        q-holds = omega (arith, slice-aggregate-run-steps (c .before), c .before .before .before .area .ensures, c .before .before .if4 .left);
+        q-holds = omega (arith, slice-aggregate-run-steps (c .before .before), c .before .before .before .before .area .ensures, c .before .before .before .if4 .left);
       },
       k .before .before .if1 .left,
+      omega (arith, mul-le-mul few few),
     )
 
 pub run-sequence-spec : {M : Type 1} → statement M
@@ -39,5 +42,6 @@ run-sequence-spec =
     (λ c. search needs)  -- array-share-prefix-q
     slice-aggregate-run-steps  -- slice-aggregate-run-steps
     (λ c κs. search needs)  -- byte-requires-3
+    (λ c. search needs)  -- slice-aggregate-run-steps-2
     run-steps-requires  -- run-steps-requires
     (λ c. search needs))  -- returns-5

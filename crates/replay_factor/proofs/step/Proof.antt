@@ -9,6 +9,7 @@ step-spec =
     (tie.spec
     (λ c κs. search needs)  -- byte-requires
     (λ c κs. search needs)  -- update-requires
+    (λ c. search needs)  -- same-length
     (λ c. search needs)  -- returns
     (λ c κs. search needs)  -- reset-requires
-    (λ c. rw (c .reset .ensures) (good-reset _ _ (c .before .before .before .before .before .pre .2))))  -- returns-2
+    (λ c. rw (c .reset .ensures) (good-reset _ _ _ (c .before .before .before .before .before .before .pre .2))))  -- returns-2
