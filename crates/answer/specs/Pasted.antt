@@ -6,7 +6,7 @@ use native.Mathlib.Omega.{arith}
 use native.Mathlib.Nat.{not-suc-le-zero, le-of-suc-le-suc, le-refl, mul-suc}
 use native.Mathlib.Numerals.{add-one}
 use lib.ListN.{length, take, drop, getD, set, length-append}
-use lib.Seq.{paste, paste-zero, paste-suc, take-paste, drop-paste, drop-drop, take-length, take-suc, take-all, length-take-le}
+use lib.Seq.{paste, paste-zero, paste-suc, length-paste, take-paste, drop-paste, drop-drop, take-length, take-suc, take-all, length-take-le}
 use lib.IntN.{ℤ, pos}
 use borrow.Author.Tests.{le-leb, lt-leb}
 use Rattle.folds.specs.Fold.{over, fold, fold-turn, pick-true, pick-false}
@@ -15,6 +15,14 @@ use Rattle.answer.specs.File.{Answer, bytes, each, in4, in8, field, file
 -- o with s written over it from `at` on
 unfoldable pub pasted : ℕ → List ℕ → List ℕ → List ℕ
 pasted at s o = paste o at s (length s)
+
+pub pasted-is : (at : ℕ) (s o : List ℕ) → paste o at s (length s) ≡ pasted at s o
+unfolding pasted
+pasted-is at s o = refl
+
+pub length-pasted : (at : ℕ) (s o : List ℕ) → at + length s ≤ length o → length (pasted at s o) ≡ length o
+unfolding pasted
+length-pasted at s o h = length-paste o at s (length s) h (le-refl (length s))
 
 -- nothing, and a piece after another
 pub pasted-none : (at : ℕ) (o : List ℕ) → o ≡ pasted at [] o

@@ -10,3 +10,4 @@ pub mod Whole
 pub mod More
 pub mod Loop
 pub mod InRange
+pub mod Longest

@@ -1,0 +1,22 @@
+use mathlib.Core.Path.{sym}
+use lib.Seq.{length-take-le}
+use borrow.Author.Needs.{needs}
+use Rattle.listing.specs.Appended.{listed-within}
+use Rattle.places.proofs.main.Statement.{statement}
+use Rattle.places.proofs.main.Tie as tie
+
+pub main-spec : {M : Type 1} → statement M
+main-spec =
+    tie.close
+    (tie.spec
+    (λ c. search needs)
+    (λ c κs. search needs)
+    (λ c κs. search needs)
+    (λ c. search needs)
+    (λ c. search needs)
+    (λ c. search needs)
+    (λ c κs. search needs)
+    (λ c. listed-within (c .before .listing-of .ensures))
+    (λ c. sym (length-take-le _ _ (listed-within (c .before .before .listing-of .ensures))))
+    (λ c κs. search needs)
+    (λ c. search needs))

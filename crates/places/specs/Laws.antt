@@ -1,0 +1,38 @@
+-- The listing by what the service answers, and that no byte past the longest block and a header changes it.
+use mathlib.Core.Path.{_≡_, refl, sym, _∙_, ap}
+use mathlib.Core.List.{List}
+use Prim.Native.Nat.{ℕ}
+use lib.ListN.{take}
+use Rattle.format.specs.Read as Read
+use Rattle.format.specs.Read.{Outcome, read}
+use Rattle.format.specs.Longest.{enough, read-enough}
+use Rattle.format.specs.Structs.{blockOf}
+use Rattle.listing.specs.Listing.{plan, refused}
+use Rattle.service.specs.Place as Place
+use Rattle.service.specs.Held.{PlacedFor, holds-refusal, holds-answer}
+use Rattle.service.specs.Laws.{block-refused, block-placed}
+use Rattle.service.specs.declared.Placement.{Placement}
+use Rattle.places.specs.Places.{room, ofPlaced, ofRead, listing}
+
+pub listing-enough : (s : List ℕ) → listing s ≡ listing (take enough s)
+unfolding listing
+listing-enough s = ap ofRead (read-enough s)
+
+module _ {s : List ℕ} {p : Placement} (P : PlacedFor s room p) where
+  pub listing-plan : p .number ≡ 0 → plan (blockOf (p .block)) (take (p .block .words) (p .times)) (p .gap) (p .passes) ≡ listing s
+  unfolding listing ofRead ofPlaced
+  listing-plan e =
+      let b = blockOf (p .block) in
+      let r = P .is-read e in
+      sym (ap ofRead r ∙ ap (ofPlaced b) (block-placed s room b r ∙ sym (P .is) ∙ holds-answer p e))
+
+  pub listing-refusal : (p .number ≡ 0 → ⊥) → refused (p .number) ≡ listing s
+  unfolding listing ofRead ofPlaced
+  listing-refusal h = go (read s) refl
+    where
+      go : (o : Outcome) → read s ≡ o → refused (p .number) ≡ listing s
+      go (Read.block b) r = sym (ap ofRead r ∙ ap (ofPlaced b) (block-placed s room b r ∙ sym (P .is) ∙ holds-refusal p h))
+      go (Read.refused n) r = sym (ap ofRead r ∙ ap refused (same n (block-refused s room n r ∙ sym (P .is) ∙ holds-refusal p h)))
+        where
+          same : (n : ℕ) → Place.refused n ≡ Place.refused (p .number) → n ≡ p .number
+          same n e = cc

@@ -1,0 +1,52 @@
+// Reads a block from standard input and prints the listing of its plan, or its refusal. The listing is specs/Places.antt.
+use libc::STDIN_FILENO;
+use libc::STDOUT_FILENO;
+ghost use Prim.Native.Nat.{_≤_};
+ghost use lib.ListN.{length};
+ghost use Rattle.listing.specs.Appended.{Listed};
+ghost use Rattle.listing.specs.Longest.{longest};
+ghost use Rattle.places.specs.Places.{listing};
+
+// The longest block and a header after it: no byte past them changes the reading.
+const BLOCK: usize = 2346;
+
+// The longest listing.
+const LISTING: usize = 672;
+
+// The listing of a block file, to the front of `out`, and its length.
+fn listing_of(block: &[u8], out: &mut [u8]) -> usize
+    requires { ⌜ longest ≤ length (now out) ⌝ }
+    ensures { λ r. ⌜ Listed (listing (now (block .entry))) (now (out .entry)) r (now (out .exit)) ⌝ }
+{
+    let room = answer::file_size(
+        format::MAX_WORDS,
+        format::MAX_ANCHORS + format::MAX_SPANS + 1,
+    );
+    let p = service::placed(block, room);
+    if p.number == 0 {
+        let b = p.block;
+        let n = b.words;
+        let times = p.times;
+        return listing::plan(b, &times[..n], p.gap, p.passes, out);
+    }
+    listing::refused(p.number, out)
+}
+
+// Reads on to the end of standard input.
+fn skip_rest() {
+    let mut past = io::large_buffer();
+    for _ in 0..18446744073709551615usize {
+        if io::read_full(STDIN_FILENO, &mut past) == 0 {
+            return;
+        }
+    }
+}
+
+fn main() {
+    let mut block = [0u8; BLOCK];
+    let n = io::read_full(STDIN_FILENO, &mut block);
+    skip_rest();
+    let mut text = [0u8; LISTING];
+    let k = listing_of(&block[..n], &mut text);
+    io::write_all(STDOUT_FILENO, &text[..k]);
+}
