@@ -18,7 +18,7 @@
  *   11 not finite     a term of the objective
  *   12 no answer      the numbers don't reach: singular, or too ill-conditioned to solve
  *   13 unbounded      the objective falls without end
- *   14 not converged  the passes run out, or a pass can't go on
+ *   14 not converged  the passes run out, or a pass can't go on; for places_place also a plan that breaks a bound
  *   15 overrun        gap outside signed 64 bits (kept for this; no input gives it)
  *  100 no optimum     the objective falls without end, or no x satisfies the equations
  *
@@ -36,14 +36,16 @@
 extern "C" {
 #endif
 
-/* Places a block: writes the answer file of the block file `block` to the front of `answer`, and its length, 30 + 4 * words + 8 * (anchors + spans),
- * at most 350, to *written. What follows it in `answer` keeps its value. The answer has four fields, each a tag (1 byte), the length of its body
- * (2 bytes) and the body, low byte first: 17, a time for each word, in samples (4 bytes each, signed); 18, a price for each anchor, each span and the
- * cap (8 bytes each, signed); 19, the gap (8 bytes, signed); 20, the passes of the accepted solve (2 bytes). Every window is kept; rounding may pass
- * the cap by half a sample for each word, and an anchor or a span by half the sum of its coefficients' sizes.
+/* Places a block: for the block file `block` it writes the answer file to the front of `answer`, whose other bytes keep their values, and its length
+ * to *written. The file's fields are 17, a time for each word (4 bytes each); 18, a price for each anchor, each span and the cap (8 bytes each); 19, the
+ * gap (8 bytes); 20, the passes of the accepted solve (2 bytes): 30 + 4 * words + 8 * (anchors + spans) bytes, at most 350.
  *
- * Refusals, in this order: the block's, 1 to 7; 8; 12 and 14. On a refusal answer and *written keep their values. docs/BLOCKS.md says what to mend.
- * Stack: STACK KB. */
+ * With 0 the times in the file are each in their word's window; twice what the moves are above the cap is at most the number of words; twice what an
+ * anchor or a span is missed by is at most the sum of its coefficients' sizes; and no plan that keeps the block costs less than this plan's cost less
+ * the gap in the file.
+ *
+ * Refusals, in this order: the block's, 1 to 7; 8; the engine's, 12 or 14 (11 and 13 belong to its other calls); 14 where a weight of the engine is not
+ * finite or the written times break one of those bounds; 15. On a refusal the slice and *written keep their values. Stack: STACK KB. */
 uint32_t places_place(const uint8_t *block, size_t block_len,
                       uint8_t *answer, size_t answer_len,
                       uint64_t *written);

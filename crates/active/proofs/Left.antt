@@ -13,6 +13,7 @@ use Rattle.factoring.specs.declared.Factoring.{Factoring}
 use Rattle.factoring.specs.Kept.{new}
 use Rattle.pass.specs.declared.Made.{Made}
 use Rattle.pass.specs.Pass.{State, state, madeOf, pass}
+use Rattle.pass.specs.Laws.{made-beside}
 use Rattle.active.specs.declared.Answer as Declared
 use Rattle.active.specs.declared.Verdict.the-variants.{NotConverged}
 use Rattle.active.specs.Answer.{Answer, answerOf}
@@ -41,12 +42,12 @@ module _ (originals n m : ℕ) (q c e b : List Float) (segments : List Segments)
     module _ (t : Made) (l : List Float) (under : made < budget n) (gave : madeOf n m t l ≡ pass p segments fixed qAmax linear s) where
       pub again : goesOn (t .passed .ending) ≡ true →
           Left p segments fixed qAmax linear (made + 1) (state (t .passed .iterate) (t .factoring) l) ≡ r
-      unfolding Left step madeOf
-      again g = run-more _ _ (budget n) made s _ under (rw (← gave) (counted-more (t .passed) (made + 1) n m (t .factoring) l g)) ∙ left
+      unfolding Left step
+      again g = run-more _ _ (budget n) made s _ under (rw (← gave, made-beside) (counted-more (t .passed) (made + 1) n m (t .factoring) l g)) ∙ left
 
       pub ended : (a : Declared.Answer) → Ends (t .passed) (made + 1) a → answerOf n m a ≡ r
-      unfolding Left step madeOf
-      ended a f = run-done _ _ (budget n) made s under (rw (← gave) (f n m (t .factoring) l)) ∙ left
+      unfolding Left step
+      ended a f = run-done _ _ (budget n) made s under (rw (← gave, made-beside) (f n m (t .factoring) l)) ∙ left
 
 -- ---- work memory of the same lengths
 pub same-room : {originals n m : ℕ} {room qFree eFree gram ks es left coefficients range qq null h vectors

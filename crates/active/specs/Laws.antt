@@ -30,6 +30,7 @@ use Rattle.iterate.specs.declared.Ending.{Ending}
 use Rattle.iterate.specs.declared.Ending.the-variants as Ending
 use Rattle.iterate.specs.declared.Passed.{Passed}
 use Rattle.pass.specs.Pass.{State, state, beside, pass}
+use Rattle.pass.specs.Laws.{beside-more, beside-done}
 use Rattle.active.specs.declared.Verdict.{Verdict}
 use Rattle.active.specs.declared.Verdict.the-variants.{Optimal, NonFiniteCovariance, SingularCovariance, Unbounded, NotConverged}
 use Rattle.active.specs.declared.Answer as Declared
@@ -95,32 +96,32 @@ more-goes e m h = false-true (sym (rw m at h))
 module _ (p : Passed) (passes : ℕ) where
   pub counted-more : (n m : ℕ) (f : Factoring) (l : List Float) → goesOn (p .ending) ≡ true →
       counted passes (beside f l (passedOf n m p)) ≡ more (state (p .iterate) f l)
-  unfolding counted beside
-  counted-more n m f l h = rw (passed-more n m p (goes-more (p .ending) h))
+  unfolding counted
+  counted-more n m f l h = rw (passed-more n m p (goes-more (p .ending) h), beside-more)
 
   pub ends-optimal : p .ending ≡ Ending.Optimal →
       Ends p passes (record { verdict = Optimal; x = p .iterate .board .x; multipliers = p .multipliers; passes = passes })
-  unfolding counted beside
+  unfolding counted
   ends-optimal e n m f l =
       let r : Declared.Answer = record { verdict = Optimal; x = p .iterate .board .x; multipliers = p .multipliers; passes = passes } in
-      rw (passed-optimal n m p e, answerOf-optimal n m r refl)
+      rw (passed-optimal n m p e, beside-done, answerOf-optimal n m r refl)
 
   module _ (r : Declared.Answer) where
     pub ends-nonFinite : p .ending ≡ Ending.NonFiniteCovariance → r .verdict ≡ NonFiniteCovariance → Ends p passes r
-    unfolding counted beside
-    ends-nonFinite e v n m f l = rw (passed-nonFinite n m p e, answerOf-nonFinite n m r v)
+    unfolding counted
+    ends-nonFinite e v n m f l = rw (passed-nonFinite n m p e, beside-done, answerOf-nonFinite n m r v)
 
     pub ends-singular : p .ending ≡ Ending.SingularCovariance → r .verdict ≡ SingularCovariance → Ends p passes r
-    unfolding counted beside
-    ends-singular e v n m f l = rw (passed-singular n m p e, answerOf-singular n m r v)
+    unfolding counted
+    ends-singular e v n m f l = rw (passed-singular n m p e, beside-done, answerOf-singular n m r v)
 
     pub ends-unbounded : p .ending ≡ Ending.Unbounded → r .verdict ≡ Unbounded → Ends p passes r
-    unfolding counted beside
-    ends-unbounded e v n m f l = rw (passed-unbounded n m p e, answerOf-unbounded n m r v)
+    unfolding counted
+    ends-unbounded e v n m f l = rw (passed-unbounded n m p e, beside-done, answerOf-unbounded n m r v)
 
     pub ends-notConverged : p .ending ≡ Ending.NotConverged → r .verdict ≡ NotConverged → Ends p passes r
-    unfolding counted beside
-    ends-notConverged e v n m f l = rw (passed-notConverged n m p e, answerOf-notConverged n m r v)
+    unfolding counted
+    ends-notConverged e v n m f l = rw (passed-notConverged n m p e, beside-done, answerOf-notConverged n m r v)
 
 -- ---- where the passes start
 pub started-kept : (n : ℕ) (segments : List Segments) (start : List Float) → AllCut n segments → Kept n segments (started n segments start)

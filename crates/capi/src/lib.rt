@@ -10,6 +10,16 @@ ghost use Rattle.piecewise.specs.Piecewise.{bounded, quadratic};
 ghost use Rattle.cap.specs.Capped as Capped;
 ghost use Rattle.root.specs.Root.{root};
 ghost use Rattle.plan_check.specs.Promise.{Answered};
+ghost use Rattle.service.specs.Promise as Service;
+
+// The answer file of a block file, at the front of `answer`, and its length in `written`.
+#[no_mangle]
+pub extern "C" fn places_place(block: &[u8], answer: &mut [u8], written: &mut u64) -> u32
+    ensures { λ r. ⌜ Service.Answered (now (block .entry)) (now (answer .entry)) (now (written .entry)) r (now (answer .exit))
+        (now (written .exit)) ⌝ }
+{
+    service::place(block, answer, written)
+}
 
 // The gap of anyone's plan (a time for each word) and prices (anchors, spans, cap).
 #[no_mangle]

@@ -1,6 +1,7 @@
--- Laws of the definitions: the free variables, split at `originals`, are as the solve and the step ask, and what a function's calls give, put together.
+-- Laws of the definitions: the free variables, split at `originals`, are as the solve and the step ask, what a pass leaves, and what a function's
+-- calls give, put together.
 use mathlib.Core.Path.{_≡_, refl, _∙_}
-use mathlib.Core.Bool.{Bool, true, false}
+use mathlib.Core.Bool.{Bool}
 use mathlib.Core.List.{List}
 use Prim.Native.Nat.{ℕ, _+_, _-_, _*_, _≤_}
 use native.Mathlib.Nat.{le-refl}
@@ -10,7 +11,7 @@ use lib.Seq.{length-take-le, take-all}
 use borrow.Author.Tests.{ne-eqb}
 use lib.Ieee.{Float}
 use Rattle.folds.specs.Fold.{pick}
-use Rattle.folds.specs.Run.{Pass}
+use Rattle.folds.specs.Run.{Pass, more, done}
 use Rattle.folds.specs.Chosen.{chosen}
 use Rattle.folds.specs.Position.{partitionPoint, split-within}
 use Rattle.sizes.specs.Sizes as Sizes
@@ -26,7 +27,7 @@ use Rattle.free_list.specs.FreeList.{isFree, freeIndices, slopes}
 use Rattle.free_list.specs.Laws.{free-originals}
 use Rattle.slack_rows.specs.Laws as SlackRows
 use Rattle.iterate.specs.Problem.{Problem, problem, firstSlackColumn}
-use Rattle.iterate.specs.Iterate.{Result}
+use Rattle.iterate.specs.Iterate.{Result, passedOf}
 use Rattle.iterate.specs.declared.Iterate.{Iterate}
 use Rattle.advance.specs.Advance.{withoutFree}
 use Rattle.free_problem.specs.FreeProblem.{Gathered, gatheredOf, gather}
@@ -36,7 +37,8 @@ use Rattle.free_solve.specs.FreeSolve.{solutionOf, solveFree}
 use Rattle.free_solve.specs.declared.Solved.{Solved}
 use Rattle.free_solve.specs.Laws.{left-answer, left-factoring, left-factor}
 use Rattle.free_step.specs.FreeStep.{Split}
-use Rattle.pass.specs.Pass.{State, state, beside, onSolution, onProblem, onGathered, withFree, pass}
+use Rattle.pass.specs.declared.Made.{Made}
+use Rattle.pass.specs.Pass.{State, state, beside, madeOf, onSolution, onProblem, onGathered, withFree, pass}
 
 -- a length that is known, in an inequality
 pub still : {a b l : ℕ} → l ≡ b → a ≤ b → a ≤ l
@@ -87,6 +89,20 @@ module _ {indices solved : List ℕ} (originals n : ℕ) (state : List Spot) (wi
           slacks-are =
               rw (rest, lead-length originals indices lead, free, free-chosen n state) (SlackRows.split-rows n m originals first room _ within few (omega arith));
         }
+
+-- ---- what a pass leaves
+module _ (f : Factoring) (l : List Float) where
+  pub beside-more : (i : Iterate) → beside f l (more i) ≡ more (state i f l)
+  unfolding beside
+  beside-more i = refl
+
+  pub beside-done : (r : Result) → beside f l (done r) ≡ done r
+  unfolding beside
+  beside-done r = refl
+
+pub made-beside : (n m : ℕ) (r : Made) (l : List Float) → madeOf n m r l ≡ beside (r .factoring) l (passedOf n m (r .passed))
+unfolding madeOf
+made-beside n m r l = refl
 
 -- ---- what the calls give
 module _ (originals n m : ℕ) (q c e b : List Float) (segments : List Segments) (fixed : List Bool) (qAmax linear : Float)

@@ -12,8 +12,7 @@ use Rattle.folds.specs.Run.{Pass, more, done}
 use Rattle.sizes.specs.Sizes as Sizes
 use Rattle.vector.specs.Vector.{Below}
 use Rattle.scaled.specs.System.{system}
-use Rattle.solution.specs.Solution.{Kkt, optimum, noOptimum, nonFinite, singular, answer}
-use Rattle.solution.specs.declared.Verdict.{Verdict}
+use Rattle.solution.specs.Solution.{Kkt, optimum, noOptimum, nonFinite, singular}
 use Rattle.factoring.specs.declared.Factoring.{Factoring}
 use Rattle.segments.specs.declared.Segments.{Segments}
 use Rattle.free_list.specs.FreeList.{freeIndices, slopes}
@@ -22,8 +21,7 @@ use Rattle.iterate.specs.Iterate.{Result, passedOf}
 use Rattle.iterate.specs.Iterate as Iterate
 use Rattle.iterate.specs.declared.Iterate.{Iterate}
 use Rattle.iterate.specs.declared.Passed.{Passed}
-use Rattle.free_problem.specs.FreeProblem.{Gathered, gatheredOf, gather}
-use Rattle.free_problem.specs.declared.Free.{Free}
+use Rattle.free_problem.specs.FreeProblem.{Gathered, gather}
 use Rattle.free_solve.specs.FreeSolve.{solveFree}
 use Rattle.free_step.specs.FreeStep.{afterMinimum, descend}
 use Rattle.advance.specs.Advance.{withoutFree}

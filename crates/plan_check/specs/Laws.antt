@@ -7,14 +7,15 @@ use native.Mathlib.Omega.{arith}
 use native.Mathlib.Nat.{le-trans}
 use lib.Dec.{eqb, leb→le, lit≤}
 use lib.ListN.{length}
-use lib.IntN.{ℤ, pos, negsuc, negℤ, natAbs}
+use lib.IntN.{ℤ, pos, negsuc, negℤ, natAbs, _+ℤ_, _-ℤ_, _*ℤ_}
 use lib.Signed.{_≤ℤ_, leZ}
 use borrow.Author.Tests.{le-leb, eq-eqb, ne-eqb, eqb-true}
 use Rattle.folds.specs.Fold.{all, all-at, both, both-on, both-stop, both-true, pick, pick-true, pick-false}
 use Rattle.ints.specs.Diff.{diff, split, leZ-true}
 use Rattle.ints.specs.Bound.{_≼_, loose}
 use Rattle.block.specs.Block.{Block}
-use Rattle.block.specs.Plan.{time}
+use Rattle.block.specs.Plan.{time, cost}
+use Rattle.block.specs.Finer.{costOver}
 use Rattle.block.specs.Gap.{Prices, price, gap}
 use Rattle.block.specs.Ranges.{maxTime, maxPrice, Ranged}
 use Rattle.block.specs.CostBound.{cost-bound, cost-bound-over}
@@ -132,6 +133,22 @@ unfolding fits64 between both
 fits-64 (pos n) h = rw (le-leb n 9223372036854775807 (h .size))
 fits-64 (negsuc n) h = rw (le-leb n 9223372036854775807 (le-trans (omega arith) (h .size)))
 
+pub gap-fits : {b : Block} {x p : List ℤ} → Ranged b → PlanAndPrices b x p → fits64 (gap b x (pricesFrom b p)) ≡ true
+gap-fits R P = fits-64 _ (loose (lit≤ tt) (gap-b R (list-priced P) (list-timed P)))
+
+-- ---- and bounds the cost, of a block that was read
+pub cost-bounded : (s : List ℕ) {b : Block} → Read.read s ≡ Read.Outcome.block b → Ranged b → (x p : List ℤ) {z : ℤ}
+    → z ≡ gap b x (pricesFrom b p) → CostBound s x z
+cost-bounded s {b} e R x p {z} q =
+    record {
+      block = b;
+      is-read = e;
+      whole = λ y k. subst (λ (g : ℤ). (cost b x -ℤ g) ≤ℤ cost b y) (sym q) (cost-bound R x (pricesFrom b p) y k);
+      fractional = λ d y k.
+          subst (λ (g : ℤ). (pos d *ℤ (pos d *ℤ cost b x)) ≤ℤ (costOver d b y +ℤ pos d *ℤ (pos d *ℤ g))) (sym q)
+          (cost-bound-over R x (pricesFrom b p) d y k);
+    }
+
 -- ---- the check by its cases
 module _ (s : List ℕ) (x p : List ℤ) where
   check-refused : (n : ℕ) → Read.read s ≡ Read.Outcome.refused n → check s x p ≡ refused n
@@ -146,8 +163,7 @@ module _ (s : List ℕ) (x p : List ℤ) where
     check-gap : refusalOf b x p ≡ 0 → Ranged b → check s x p ≡ gapIs (gap b x (pricesFrom b p))
     unfolding check checkRead checkBlock
     check-gap z R =
-        let P = passed b x p z in
-        let f = fits-64 (gap b x (pricesFrom b p)) (loose (lit≤ tt) (gap-b R (list-priced P) (list-timed P))) in
+        let f = gap-fits R (passed b x p z) in
         rw e
         (sym (pick-true (eqb (refusalOf b x p) 0) _ (eq-eqb (refusalOf b x p) 0 z) (pick-true (fits64 (gap b x (pricesFrom b p))) _ f refl)))
 
@@ -180,7 +196,5 @@ module _ (s : List ℕ) (v : Verdict) (b : Block) (e : Read.outcome v b ≡ Read
         record {
           result = rw c;
           gap = rw c q;
-          bound = λ _.
-              subst (CostBound s x) (sym q)
-              (record { block = b; is-read = is-block f; whole = cost-bound R x (pricesFrom b p); fractional = cost-bound-over R x (pricesFrom b p) });
+          bound = λ _. cost-bounded s (is-block f) R x p q;
         }

@@ -52,15 +52,10 @@ impl List {
     }
 }
 
-/// Where the list of a program is: its standard input, or `reference/lists` until there is such a
-/// program.
+/// Where the list of a program is: its standard input.
 pub fn path(program: &str) -> PathBuf {
     let reference = Path::new(env!("CARGO_MANIFEST_DIR"));
-    let folder = reference.join("../crates").join(program);
-    match folder.join("src").exists() {
-        true => folder.join("stdin"),
-        false => reference.join("lists").join(program),
-    }
+    reference.join("../crates").join(program).join("stdin")
 }
 
 /// How many cases there are of each group and outcome.

@@ -1,4 +1,4 @@
-use Rattle.folds.specs.Kit.{_≤_, arith, length, kit}
+use Rattle.folds.specs.Kit.{_≤_, arith, length}
 use Rattle.folds.specs.Cell.{area}
 use Rattle.factor.specs.Laws.{listed-few}
 use Rattle.free_solve.specs.Laws.{good-left, free-from, good-solve, regular-from}

@@ -1,5 +1,5 @@
-use Rattle.folds.specs.Kit.{_≡_, _≤_, sym, _∙_, arith, length, needs}
-use native.Mathlib.Nat.{le-refl, le-trans}
+use Rattle.folds.specs.Kit.{length, needs}
+use native.Mathlib.Nat.{le-refl}
 use Rattle.pass.specs.Pass.{madeOf}
 use Rattle.pass.specs.Laws.{still, lead-few, rest-is, split-rising, split-free, pass-without, pass-with}
 use Rattle.pass.proofs.with_indices.Statement.{statement}
