@@ -229,3 +229,10 @@ module _ (a : Answer) (o : List ℕ) where
     file-written h₁ h₂ h₃ h₄ =
         let e = le-leb (length (file a)) (length o) (omega (arith, length-file a)) in
         record { result = pick-true _ _ e refl; slice = pick-true _ _ e (all-pasted h₁ h₂ h₃ h₄ ∙ pasted-front (file a) o) }
+
+  -- and what a writer whose slice is large enough gives
+  pub whole-written : {r : ℕ} {exit : List ℕ} → Written a o r exit → length (file a) ≤ length o → (r ≡ 0) × (exit ≡ over (file a) o)
+  unfolding refusal written
+  whole-written w h =
+      let e = le-leb (length (file a)) (length o) h in
+      (w .result ∙ sym (pick-true _ _ e refl), w .slice ∙ sym (pick-true _ _ e refl))

@@ -3,7 +3,7 @@
 use mathlib.Core.Path.{_≡_, refl, sym, subst, _∙_}
 use mathlib.Core.Bool.{true, false}
 use mathlib.Core.List.{List}
-use Prim.Native.Nat.{ℕ, _+_, _≤_}
+use Prim.Native.Nat.{ℕ, suc, _+_, _≤_}
 use native.Mathlib.Omega.{arith}
 use lib.ListN.{length, take}
 use lib.Ieee.{Float}
@@ -236,3 +236,20 @@ pub engine-answer : (n m r : ℕ) (q c e b lower upper a rowLower rowUpper at sl
     ≡ engine (searchMultiplier (problem n m r q c e b lower upper a rowLower rowUpper at slopes) cap (kinkMultiplier n q c at) start)
 engine-answer n m r q c e b lower upper a rowLower rowUpper at slopes start cap k l s t =
     engine-answers n m r q c e b lower upper a rowLower rowUpper at slopes start cap k l s t refl refl
+
+-- ---- with 0 the answer is what was written
+nonzero : {n : ℕ} → suc n ≡ 0 → ⊥
+nonzero p = omega arith
+
+module _ {x x' multipliers multipliers' : List Float} {passes passes' : ℕ} {raise raise' : Float} {n : ℕ} where
+  pub optimal-written : (a : Answer) → Written a n x x' multipliers multipliers' passes passes' raise raise' → n ≡ 0 →
+      a ≡ engine (optimal x' multipliers' passes' raise')
+  unfolding number xOr multipliersOr passesOr raiseOr
+  optimal-written wrongShape w z = absurd (nonzero (sym (w .numbered) ∙ z))
+  optimal-written blankBound w z = absurd (nonzero (sym (w .numbered) ∙ z))
+  optimal-written (engine (optimal y ν k t)) w z =
+      λ i. engine (optimal (sym (w .x-written) i) (sym (w .multipliers-written) i) (sym (w .passes-written) i) (sym (w .raise-written) i))
+  optimal-written (engine nonFinite) w z = absurd (nonzero (sym (w .numbered) ∙ z))
+  optimal-written (engine singular) w z = absurd (nonzero (sym (w .numbered) ∙ z))
+  optimal-written (engine unbounded) w z = absurd (nonzero (sym (w .numbered) ∙ z))
+  optimal-written (engine notConverged) w z = absurd (nonzero (sym (w .numbered) ∙ z))
