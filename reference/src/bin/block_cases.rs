@@ -1,5 +1,5 @@
-//! Writes the fixed lists of blocks, each the standard input of its program `crates/replay_*` or,
-//! until there is such a program, a file in `lists`, and prints what they hold.
+//! Writes the fixed lists of blocks, each the standard input of its program `crates/replay_*`, and prints what
+//! they hold.
 //!
 //!     cargo run --release --offline --bin block_cases -- SEED
 

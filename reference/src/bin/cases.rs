@@ -3,9 +3,9 @@
 //!     cargo run --release --offline --bin cases -- lists SEED
 //!     cargo run --release --offline --bin cases -- count SEED COUNT
 //!
-//! `lists` writes the lists, each the standard input of its program `crates/replay_*` or, until
-//! there is such a program, a file in `lists`, and prints what they hold. `count` runs that many
-//! cases of each call, of all sizes, and prints their outcomes.
+//! `lists` writes the lists, each the standard input of its program `crates/replay_*`, and prints
+//! what they hold. `count` runs that many cases of each call, of all sizes, and prints their
+//! outcomes.
 
 use reference::cases::engine::Call;
 use reference::cases::families::{Generator, Style};
