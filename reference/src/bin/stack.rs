@@ -10,6 +10,7 @@ use reference::bench::Problem;
 use reference::block::{Block, write};
 use reference::cases::attempt::Attempt;
 use reference::cases::block::{binding, limits, realistic};
+use reference::cases::engine::Case;
 use reference::compare::Written;
 use reference::library;
 use reference::rng::Rng;
@@ -103,43 +104,40 @@ fn solve_kkt(n: usize, m: usize) -> usize {
     depth
 }
 
-/// The deepest of some problems of so many words, whatever the outcome.
-fn solve_piecewise(words: usize) -> usize {
+/// The deepest of some problems of blocks of so many words, whatever the outcome.
+fn engine(
+    block: fn(&mut Rng, usize) -> Block,
+    words: usize,
+    call: fn(&Case, &mut Written) -> u32,
+) -> usize {
     let mut rng = Rng::new(1);
     let depths = (0..20).map(|_| {
-        let case = engine_case(&realistic(&mut rng, words));
+        let case = engine_case(&block(&mut rng, words));
         let mut written = Written::new(case.n, case.m + case.r);
         depth(&mut || {
-            black_box(library::solve_piecewise(
-                &case.problem(),
-                &case.at,
-                &case.slopes,
-                &case.start,
-                &mut written,
-            ));
+            black_box(call(&case, &mut written));
         })
     });
     depths.max().expect("a problem")
 }
 
-/// The same, of problems whose cap binds.
-fn solve_turnover_capped(words: usize) -> usize {
-    let mut rng = Rng::new(1);
-    let depths = (0..20).map(|_| {
-        let case = engine_case(&binding(&mut rng, words));
-        let mut written = Written::new(case.n, case.m + case.r);
-        depth(&mut || {
-            black_box(library::solve_turnover_capped(
-                &case.problem(),
-                &case.at,
-                &case.slopes,
-                &case.start,
-                case.cap,
-                &mut written,
-            ));
-        })
-    });
-    depths.max().expect("a problem")
+fn solve_turnover_capped(case: &Case, written: &mut Written) -> u32 {
+    let (at, slopes, start) = (&case.at, &case.slopes, &case.start);
+    library::solve_turnover_capped(&case.problem(), at, slopes, start, case.cap, written)
+}
+
+fn solve_piecewise(case: &Case, written: &mut Written) -> u32 {
+    library::solve_piecewise(
+        &case.problem(),
+        &case.at,
+        &case.slopes,
+        &case.start,
+        written,
+    )
+}
+
+fn solve_bounded(case: &Case, written: &mut Written) -> u32 {
+    library::solve_bounded(&case.problem(), &case.start, written)
 }
 
 /// The deepest of some blocks, whatever the outcome.
@@ -165,13 +163,15 @@ fn main() {
     for words in [32, 8, 2] {
         println!(
             "| `places_solve_turnover_capped`, {words} words | {} |",
-            solve_turnover_capped(words)
+            engine(binding, words, solve_turnover_capped)
         );
-    }
-    for words in [32, 8, 2] {
         println!(
             "| `places_solve_piecewise`, {words} words | {} |",
-            solve_piecewise(words)
+            engine(realistic, words, solve_piecewise)
+        );
+        println!(
+            "| `places_solve_bounded`, {words} words | {} |",
+            engine(realistic, words, solve_bounded)
         );
     }
     for (n, m) in [(32, 8), (8, 8), (8, 0), (1, 0)] {
