@@ -87,7 +87,7 @@ uint32_t places_solve_kkt(const double *k, size_t k_len,
  * the multipliers of the equations and then of the rows: Qx + E(the first m) + A(the last r) is c but for variables at a bound. *passes becomes the
  * number of passes made, the last one included, at most 100 + 20 (n + r).
  *
- * The start is held to its bounds; one that misses an equation or a row is not refused, and mostly ends in 12.
+ * The start is held to its bounds; one that misses an equation or a row is not refused, and often ends in 12.
  *
  * Refusals, in this order: 9 where a count is too large or a slice has not the length that the counts give it (q n * n; c, lower, upper, start and
  * x n; e n * m; b m; a n * r; row_lower and row_upper r; multipliers m + r); 10 where one of the four lists of bounds and limits has a NaN; then, by
