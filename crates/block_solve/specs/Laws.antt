@@ -1,19 +1,28 @@
--- What an answer to a block is: its sizes, and how the code's arrays hold it.
-use mathlib.Core.Path.{_≡_, sym, _∙_, ap, ap₂, subst}
+-- What an answer to a block is: its sizes, that it is the engine's, and how the code's arrays hold it.
+use mathlib.Core.Path.{_≡_, refl, sym, _∙_, ap, ap₂, subst}
+use mathlib.Core.Bool.{true, false}
 use mathlib.Core.List.{List, _++_}
 use Prim.Native.Nat.{ℕ, _+_, _*_, _≤_}
 use native.Mathlib.Omega.{arith}
+use borrow.Author.Tests.{le-leb, eq-eqb}
 use lib.ListN.{length, take, length-append}
 use lib.Seq.{take-at}
 use lib.Ieee.{Float}
+use Rattle.folds.specs.Fold.{pick-false, both-yes}
+use Rattle.vector.specs.Vector.{anyNan}
 use Rattle.block.specs.Block.{Block}
+use Rattle.block.specs.Ranges.{Ranged}
 use Rattle.format.specs.declared.Block as Held
-use Rattle.cap.specs.Capped.{Answer, optimal, engine, solveTurnoverCapped, Written}
-use Rattle.cap.specs.Laws.{optimal-sized, optimal-written}
+use Rattle.cap.specs.Capped.{Answer, Capped, optimal, unbounded, engine, solveTurnoverCapped, Written}
+use Rattle.cap.specs.Laws.{optimal-sized, never-unbounded, engine-answer, optimal-written}
 use Rattle.format.specs.Structs.{blockOf, Sound}
 use Rattle.format.specs.Entries.{words-length, anchors-length, spans-length}
-use Rattle.block_qp.specs.Qp.{anchorValues, spanLowers, spanUppers, cap}
-use Rattle.piecewise.specs.Piecewise.{Quadratic, quadratic}
+use Rattle.block_qp.specs.Qp.{lowers, uppers, anchorValues, spanLowers, spanUppers, cap}
+use Rattle.block_qp.specs.Laws.{length-hessian, length-linear, length-keys, length-slopes, length-lowers, length-uppers, length-starts}
+use Rattle.block_qp.specs.Laws.{length-anchorColumns, length-anchorValues, length-spanColumns, length-spanLowers, length-spanUppers}
+use Rattle.block_qp.specs.Exact.{lowers-numbers, uppers-numbers, spanLowers-numbers, spanUppers-numbers}
+use Rattle.piecewise.specs.Piecewise.{Quadratic, quadratic, sized, long, shaped, blank}
+use Rattle.piecewise.specs.Laws.{Size}
 use Rattle.block_solve.specs.Solve.{quadraticOf, solveBlock, Matrices, Words, Solves}
 
 -- ---- an answer has a weight for each word, a multiplier for each anchor and span, and few passes
@@ -27,6 +36,70 @@ pub solved-sized : (b : Block) (x multipliers : List Float) (passes : ℕ) (rais
 unfolding solveBlock
 solved-sized b x multipliers passes raise e =
     let z = optimal-sized _ _ _ _ e in record { x-long = z .0; multipliers-long = z .1; passes-few = z .3 }
+
+-- ---- a block in document 01's ranges is neither 9 nor 10, nor is it ever 13: the answer is the engine's
+-- (`sized-yes`, `long-yes` and `blank-no` belong in piecewise)
+sized-yes : {n m r q c e b a : ℕ} → Size n m r q c e b a → sized n m r q c e b a ≡ true
+unfolding sized
+sized-yes s =
+    both-yes (le-leb _ _ (s .originals))
+    (both-yes (le-leb _ _ (s .equalities))
+    (both-yes (le-leb _ _ (s .rows))
+    (both-yes (eq-eqb _ _ (s .q-long))
+    (both-yes (eq-eqb _ _ (s .c-long))
+    (both-yes (eq-eqb _ _ (s .e-long))
+    (both-yes (eq-eqb _ _ (s .b-long))
+    (eq-eqb _ _ (s .a-long))))))))
+
+long-yes : {n r lower upper rowLower rowUpper at slopes start x multipliers : ℕ} (m : ℕ) → lower ≡ n → upper ≡ n → rowLower ≡ r
+    → rowUpper ≡ r → at ≡ n → slopes ≡ n → start ≡ n → x ≡ n → multipliers ≡ m + r
+    → long n m r lower upper rowLower rowUpper at slopes start x multipliers ≡ true
+unfolding long
+long-yes m f g h i j k l o p =
+    both-yes (eq-eqb _ _ f)
+    (both-yes (eq-eqb _ _ g)
+    (both-yes (eq-eqb _ _ h)
+    (both-yes (eq-eqb _ _ i)
+    (both-yes (eq-eqb _ _ j)
+    (both-yes (eq-eqb _ _ k)
+    (both-yes (eq-eqb _ _ l)
+    (both-yes (eq-eqb _ _ o)
+    (eq-eqb _ _ p))))))))
+
+blank-no : (n r : ℕ) (lower upper rowLower rowUpper : List Float) → anyNan n lower ≡ false → anyNan n upper ≡ false → anyNan r rowLower ≡ false
+    → anyNan r rowUpper ≡ false → blank n r lower upper rowLower rowUpper ≡ false
+unfolding blank
+blank-no n r lower upper rowLower rowUpper f g h i = sym (pick-false _ _ f (pick-false _ _ g (pick-false _ _ h (sym i))))
+
+module _ (b : Block) where
+  block-shaped : Ranged b → shaped (quadraticOf b) (length (b .words)) (length (b .anchors) + length (b .spans)) ≡ true
+  unfolding quadraticOf shaped
+  block-shaped R =
+      both-yes
+      (sized-yes
+      (record {
+        originals = R .words;
+        equalities = R .anchors;
+        rows = R .spans;
+        q-long = length-hessian b;
+        c-long = length-linear b;
+        e-long = length-anchorColumns b;
+        b-long = length-anchorValues b;
+        a-long = length-spanColumns b;
+      }))
+      (long-yes (length (b .anchors)) (length-lowers b) (length-uppers b) (length-spanLowers b) (length-spanUppers b) (length-keys b) (length-slopes b)
+      (length-starts b) refl refl)
+
+  block-numbers : Ranged b → blank (length (b .words)) (length (b .spans)) (lowers b) (uppers b) (spanLowers b) (spanUppers b) ≡ false
+  block-numbers R = blank-no _ _ _ _ _ _ (lowers-numbers R) (uppers-numbers R) (spanLowers-numbers R) (spanUppers-numbers R)
+
+  pub engine-always : Ranged b → (o : Capped) × (solveBlock b ≡ engine o)
+  unfolding solveBlock quadraticOf
+  engine-always R = (_, engine-answer _ _ _ _ _ _ _ _ _ _ _ _ _ _ _ _ _ _ (block-shaped R) (block-numbers R))
+
+  pub solved-bounded : solveBlock b ≡ engine unbounded → ⊥
+  unfolding solveBlock
+  solved-bounded e = never-unbounded _ _ _ _ e
 
 -- ---- the code: the block b of the structs
 module _ {b : Held.Block} (S : Sound b) where

@@ -1,6 +1,6 @@
 -- The service by its cases, and what follows of an answer.
 use mathlib.Core.Path.{_≡_, refl, sym, _∙_, ap, subst}
-use mathlib.Core.Logic.{⊎-elim}
+use mathlib.Core.Logic.{_⊎_, inl, inr, ⊎-elim}
 use mathlib.Core.Bool.{Bool, true, false, true≢false}
 use mathlib.Core.List.{List}
 use Prim.Native.Nat.{ℕ, _+_, _≤_, _<_}
@@ -11,7 +11,7 @@ use lib.IntN.{ℤ, pos, natAbs}
 use lib.Signed.{_≤ℤ_}
 use lib.Ieee.{Float}
 use borrow.Author.Tests.{le-leb, lt-leb, leb-true}
-use Rattle.folds.specs.Fold.{pick, pick-true, pick-false, both, both-true, both-yes, both-first, both-second}
+use Rattle.folds.specs.Fold.{pick, pick-true, pick-false, pick-keep, both, both-true, both-yes, both-first, both-second}
 use Rattle.ints.specs.Diff.{diff, split}
 use Rattle.arith.specs.Float.{at}
 use Rattle.arith.specs.Scalar.{isFinite}
@@ -31,12 +31,12 @@ use Rattle.answer.specs.File.{Answer, file, fileSize}
 use Rattle.plan_check.specs.Check.{fits64}
 use Rattle.plan_check.specs.Laws.{gap-fits}
 use Rattle.cap.specs.Capped as Engine
-use Rattle.cap.specs.Capped.{optimal, engine}
+use Rattle.cap.specs.Capped.{Capped, optimal, engine}
 use Rattle.rounding.specs.Lists.{timesOf, allInRange, pricesOf}
 use Rattle.rounding.specs.Laws.{time-off, length-timesOf, timesOf-at, length-pricesOf, pricesOf-small, all-finite, pricesOf-cap, cap-from, cap-small, one-off}
 use Rattle.block_solve.specs.Solve.{solveBlock}
-use Rattle.block_solve.specs.Laws.{solved-sized}
-use Rattle.service.specs.Place.{Placed, answered, refused, answerFor, judged, written, ofEngine, placeBlock, placeRead, place}
+use Rattle.block_solve.specs.Laws.{solved-sized, engine-always, solved-bounded}
+use Rattle.service.specs.Place.{Placed, answered, refused, answerFor, judged, written, ofEngine, placeBlock, placeRead, place, numberOf}
 use Rattle.service.specs.Promise.{Answers}
 
 -- ---- a plan within its bounds has its times in range
@@ -139,6 +139,38 @@ module _ (s : List ℕ) (room : ℕ) where
   pub block-placed : (b : Block) → read s ≡ Outcome.block b → placeBlock b room ≡ place s room
   unfolding place placeRead
   block-placed b e = rw e
+
+-- ---- the number for a block that is read is 0, 8, 11, 12, 14 or 15: the engine gives no 9, 10 or 13 here
+abbrev pub Numbered : Placed → Type 0
+Numbered p =
+    let n = numberOf p in
+    (n ≡ 0) ⊎ ((n ≡ 8) ⊎ ((n ≡ 11) ⊎ ((n ≡ 12) ⊎ ((n ≡ 14) ⊎ (n ≡ 15)))))
+
+module _ (b : Block) where
+  written-numbered : (x multipliers : List Float) (passes : ℕ) (raise : Float) → Numbered (written b x multipliers passes raise)
+  unfolding written judged numberOf
+  written-numbered x multipliers passes raise =
+      pick-keep Numbered _ (pick-keep Numbered _ (inl refl) (inr (inr (inr (inr (inr refl)))))) (inr (inr (inr (inr (inl refl)))))
+
+  engine-numbered : (o : Capped) → (o ≡ Engine.unbounded → ⊥) → Numbered (ofEngine b (engine o))
+  unfolding ofEngine numberOf Engine.number
+  engine-numbered (optimal x multipliers passes raise) f = written-numbered x multipliers passes raise
+  engine-numbered Engine.nonFinite f = inr (inr (inl refl))
+  engine-numbered Engine.singular f = inr (inr (inr (inl refl)))
+  engine-numbered Engine.unbounded f = absurd (f refl)
+  engine-numbered Engine.notConverged f = inr (inr (inr (inr (inl refl))))
+
+  block-numbered : Ranged b → (room : ℕ) → Numbered (placeBlock b room)
+  unfolding placeBlock numberOf
+  block-numbered R room =
+      let a = engine-always b R in
+      pick-keep Numbered _
+      (subst (λ (e : Engine.Answer). Numbered (ofEngine b e)) (sym (a .1))
+      (engine-numbered (a .0) (λ u. solved-bounded b (a .1 ∙ ap engine u))))
+      (inr (inl refl))
+
+pub place-numbered : (s : List ℕ) (room : ℕ) (b : Block) → read s ≡ Outcome.block b → Numbered (place s room)
+place-numbered s room b e = subst Numbered (block-placed s room b e) (block-numbered b (read-ranged s b e) room)
 
 -- ---- what follows of an answer
 module _ (b : Block) (x : List Float) (times prices : List ℤ) (passes : ℕ) {a : Answer} where
