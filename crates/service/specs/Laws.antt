@@ -11,7 +11,7 @@ use lib.IntN.{ℤ, pos, natAbs}
 use lib.Signed.{_≤ℤ_}
 use lib.Ieee.{Float}
 use borrow.Author.Tests.{le-leb, lt-leb, leb-true}
-use Rattle.folds.specs.Fold.{pick, pick-true, pick-false, pick-keep, both, both-true, both-yes, both-first, both-second}
+use Rattle.folds.specs.Fold.{pick, pick-true, pick-false, pick-keep, pick-by, both, both-true, both-yes, both-first, both-second}
 use Rattle.ints.specs.Diff.{diff, split}
 use Rattle.arith.specs.Float.{at}
 use Rattle.arith.specs.Scalar.{isFinite}
@@ -140,37 +140,38 @@ module _ (s : List ℕ) (room : ℕ) where
   unfolding place placeRead
   block-placed b e = rw e
 
--- ---- the number for a block that is read is 0, 8, 11, 12, 14 or 15: the engine gives no 9, 10 or 13 here
+-- ---- the number for a block that is read is 0, 8, 11, 12 or 14: the engine gives no 9, 10 or 13 here, and the gap fits, so 15 is none either
 abbrev pub Numbered : Placed → Type 0
-Numbered p =
-    let n = numberOf p in
-    (n ≡ 0) ⊎ ((n ≡ 8) ⊎ ((n ≡ 11) ⊎ ((n ≡ 12) ⊎ ((n ≡ 14) ⊎ (n ≡ 15)))))
+Numbered p = let n = numberOf p in (n ≡ 0) ⊎ ((n ≡ 8) ⊎ ((n ≡ 11) ⊎ ((n ≡ 12) ⊎ (n ≡ 14))))
 
-module _ (b : Block) where
-  written-numbered : (x multipliers : List Float) (passes : ℕ) (raise : Float) → Numbered (written b x multipliers passes raise)
+module _ {b : Block} (R : Ranged b) where
+  written-numbered : (x multipliers : List Float) (passes : ℕ) (raise : Float) → solveBlock b ≡ engine (optimal x multipliers passes raise)
+      → Numbered (written b x multipliers passes raise)
   unfolding written judged numberOf
-  written-numbered x multipliers passes raise =
-      pick-keep Numbered _ (pick-keep Numbered _ (inl refl) (inr (inr (inr (inr (inr refl)))))) (inr (inr (inr (inr (inl refl)))))
+  written-numbered x multipliers passes raise s =
+      let z = solved-sized b x multipliers passes raise s in
+      pick-by Numbered _
+      (λ t.
+      let P = plan-and-prices R x multipliers passes raise (z .x-long) (z .multipliers-long) (both-true _ _ t .1) in
+      subst Numbered (pick-true _ _ (gap-fits R P) refl) (inl refl))
+      (λ t. inr (inr (inr (inr refl))))
 
-  engine-numbered : (o : Capped) → (o ≡ Engine.unbounded → ⊥) → Numbered (ofEngine b (engine o))
+  engine-numbered : (o : Capped) → solveBlock b ≡ engine o → Numbered (ofEngine b (engine o))
   unfolding ofEngine numberOf Engine.number
-  engine-numbered (optimal x multipliers passes raise) f = written-numbered x multipliers passes raise
-  engine-numbered Engine.nonFinite f = inr (inr (inl refl))
-  engine-numbered Engine.singular f = inr (inr (inr (inl refl)))
-  engine-numbered Engine.unbounded f = absurd (f refl)
-  engine-numbered Engine.notConverged f = inr (inr (inr (inr (inl refl))))
+  engine-numbered (optimal x multipliers passes raise) s = written-numbered x multipliers passes raise s
+  engine-numbered Engine.nonFinite s = inr (inr (inl refl))
+  engine-numbered Engine.singular s = inr (inr (inr (inl refl)))
+  engine-numbered Engine.unbounded s = absurd (solved-bounded b s)
+  engine-numbered Engine.notConverged s = inr (inr (inr (inr refl)))
 
-  block-numbered : Ranged b → (room : ℕ) → Numbered (placeBlock b room)
+  block-numbered : (room : ℕ) → Numbered (placeBlock b room)
   unfolding placeBlock numberOf
-  block-numbered R room =
+  block-numbered room =
       let a = engine-always b R in
-      pick-keep Numbered _
-      (subst (λ (e : Engine.Answer). Numbered (ofEngine b e)) (sym (a .1))
-      (engine-numbered (a .0) (λ u. solved-bounded b (a .1 ∙ ap engine u))))
-      (inr (inl refl))
+      pick-keep Numbered _ (subst (λ (e : Engine.Answer). Numbered (ofEngine b e)) (sym (a .1)) (engine-numbered (a .0) (a .1))) (inr (inl refl))
 
 pub place-numbered : (s : List ℕ) (room : ℕ) (b : Block) → read s ≡ Outcome.block b → Numbered (place s room)
-place-numbered s room b e = subst Numbered (block-placed s room b e) (block-numbered b (read-ranged s b e) room)
+place-numbered s room b e = subst Numbered (block-placed s room b e) (block-numbered (read-ranged s b e) room)
 
 -- ---- what follows of an answer
 module _ (b : Block) (x : List Float) (times prices : List ℤ) (passes : ℕ) {a : Answer} where
