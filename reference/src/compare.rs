@@ -78,6 +78,19 @@ pub fn arguments() -> (u64, u64) {
     }
 }
 
+/// The style of case `number`: of every size for three quarters of the cases, but for an eighth of
+/// the capped ones, each of which takes up to a thousand solves.
+fn style(call: Call, number: u64) -> Style {
+    let wide = match call {
+        Call::Capped => (number >> 5) % 8 == 0,
+        _ => (number >> 5) % 4 != 0,
+    };
+    match wide {
+        true => Style::Wide,
+        false => Style::Compact,
+    }
+}
+
 /// Runs `call` on as many cases as the command line asks for, in both styles, and prints what
 /// they give, by family and by cap, and the first difference. Ends with status 1 if there is one.
 pub fn engine(call: Call, library: Library) {
@@ -85,10 +98,7 @@ pub fn engine(call: Call, library: Library) {
     let (mut counts, mut caps) = (Counts::default(), Counts::default());
     let mut differences = 0;
     for number in 0..count {
-        let style = match (number >> 5) % 4 {
-            0 => Style::Compact,
-            _ => Style::Wide,
-        };
+        let style = style(call, number);
         let made = Generator::case(style, call, seed, number);
         let (case, cap) = match call {
             Call::Capped => capped(made, seed, number),

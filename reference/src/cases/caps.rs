@@ -6,27 +6,27 @@ use crate::matrix::SumFromZero;
 use crate::qp::sum_rounding;
 use crate::rng::Rng;
 
-/// A cap's name, how many of a hundred cases have it, and the cap. 'Moves' are those of the plan
-/// without a cap. One out of reach costs about a thousand solves.
+/// A cap's name, how many of a thousand cases have it, and the cap. 'Moves' are those of the plan
+/// without a cap. One out of reach costs about a thousand solves, so these are few.
 type Cap = (&'static str, usize, fn(&Case) -> f64);
 
 const CAPS: [Cap; 12] = [
-    ("as made", 32, |case| case.cap),
-    ("0", 6, |_| 0.0),
-    ("moves", 12, moves),
-    ("moves, a float up", 10, |case| moves(case).next_up()),
-    ("moves, a float down", 10, |case| moves(case).next_down()),
-    ("moves less rounding", 6, less_rounding),
-    ("moves less rounding, a float down", 6, |case| {
+    ("as made", 350, |case| case.cap),
+    ("0", 60, |_| 0.0),
+    ("moves", 120, moves),
+    ("moves, a float up", 105, |case| moves(case).next_up()),
+    ("moves, a float down", 105, |case| moves(case).next_down()),
+    ("moves less rounding", 60, less_rounding),
+    ("moves less rounding, a float down", 60, |case| {
         less_rounding(case).next_down()
     }),
-    ("moves less twice rounding", 6, |case| {
+    ("moves less twice rounding", 60, |case| {
         moves(case) - 2.0 * rounding(case)
     }),
-    ("infinite", 6, |_| f64::INFINITY),
-    ("-1", 2, |_| -1.0),
-    ("minus infinite", 2, |_| f64::NEG_INFINITY),
-    ("NaN", 2, |_| f64::NAN),
+    ("infinite", 65, |_| f64::INFINITY),
+    ("-1", 5, |_| -1.0),
+    ("minus infinite", 5, |_| f64::NEG_INFINITY),
+    ("NaN", 5, |_| f64::NAN),
 ];
 
 /// The case with one of these caps, and the cap's name.
@@ -36,8 +36,8 @@ pub fn capped(mut case: Case, seed: u64, number: u64) -> (Case, &'static str) {
     let (name, _, cap) = CAPS
         .iter()
         .flat_map(|cap| std::iter::repeat_n(cap, cap.1))
-        .nth(rng.below(100))
-        .expect("shares of a hundred");
+        .nth(rng.below(1_000))
+        .expect("shares of a thousand");
     case.cap = cap(&case);
     (case, name)
 }
@@ -76,15 +76,15 @@ mod tests {
     use super::*;
 
     #[test]
-    fn shares_of_a_hundred() {
-        assert_eq!(CAPS.iter().map(|cap| cap.1).sum::<usize>(), 100);
+    fn shares_of_a_thousand() {
+        assert_eq!(CAPS.iter().map(|cap| cap.1).sum::<usize>(), 1_000);
     }
 
     /// 'Within rounding of the cap counts as at it': which caps the plan without one meets.
     #[test]
     fn caps_go_either_way() {
         let (mut met, mut missed) = (Counts::default(), Counts::default());
-        for number in 0..1_000 {
+        for number in 0..4_000 {
             let case = Generator::case(Style::Compact, Call::Capped, 5, number);
             let (case, name) = capped(case, 5, number);
             if plan(&case).is_some() && moves(&case) > 0.0 {
