@@ -6,6 +6,7 @@ use native.Mathlib.Omega.{arith}
 use mathlib.Core.Bool.{Bool}
 use lib.ListN.{length, take, length-map}
 use lib.Ieee.{Float}
+use Rattle.vector.specs.Laws.{length-sub}
 use Rattle.matrix.specs.Matrix.{mulVec, index}
 use Rattle.segments.specs.Segments.{last, segmentsAt, AllCut, AllPlaced}
 use Rattle.segments.specs.Laws.{set-placed, free-all-placed}
@@ -28,6 +29,10 @@ use Rattle.advance.specs.Advance.{freeEverything, withBoard, stopped, cl
 -- the length of an array that a struct holds, as the borrow checker tells it
 pub length-mapped : (X Y : Type 0) (f : X → Y) (l : List X) (n : ℕ) → length (map f l) ≡ n → length l ≡ n
 length-mapped X Y f l n e = sym (length-map l f) ∙ e
+
+pub length-gradient : (n : ℕ) (q c x : List Float) → length (gradient n q c x) ≡ n
+unfolding gradient
+length-gradient n q c x = length-sub n (mulVec n n q x) c
 
 -- a variable that was free is held at an end of its segment
 pub stopped-placed : (n : ℕ) (segments : List Segments) (indices : List ℕ) (xFree direction lower upper : List Float) (step : Float) (k : ℕ)

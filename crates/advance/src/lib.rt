@@ -13,6 +13,7 @@ use segments::State;
 ghost use mathlib.Core.Path.{_≡_};
 ghost use Prim.Native.Nat.{_≤_, _<_, _*_};
 ghost use lib.ListN.{length, take};
+ghost use Rattle.folds.specs.Fold.{over};
 ghost use Rattle.sizes.specs.Sizes as Sizes;
 ghost use Rattle.vector.specs.Vector.{Below};
 ghost use Rattle.segments.specs.Segments.{AllCut, AllPlaced};
@@ -142,7 +143,8 @@ fn stopped(
     let mut moved = board;
     moved.x = x;
     let i = indices[k];
-    blocking::block(moved, i, side, segments[i], step, released)
+    let s = lent_segments::segment(segments, i);
+    blocking::block(moved, i, side, s, step, released)
 }
 
 // The same, with what the pass before released forgotten.
@@ -218,12 +220,17 @@ pub fn settled(
 }
 
 // gradient = q * &x - c
-fn gradient(q: &[f64], c: &[f64], n: usize, x: &[f64]) -> [f64; sizes::VARIABLES]
-    requires { ⌜ (n ≤ Sizes.variables) × (n * n ≤ length (now q)) × (n ≤ length (now c)) × (n ≤ length (now x)) ⌝ }
-    ensures { λ r. ⌜ take n r ≡ Advance.gradient n (now (q .entry)) (now (c .entry)) (now (x .entry)) ⌝ }
+fn gradient_at(q: &[f64], c: &[f64], n: usize, x: &[f64], gradient: &mut [f64])
+    requires { ⌜ (n ≤ Sizes.variables)
+        × (n * n ≤ length (now q))
+        × (n ≤ length (now c))
+        × (n ≤ length (now x))
+        × (n ≤ length (now gradient)) ⌝ }
+    ensures { λ _. ⌜ now (gradient .exit) ≡ over (Advance.gradient n (now (q .entry)) (now (c .entry)) (now (x .entry))) (now (gradient .entry)) ⌝ }
 {
-    let qx = dense::mul_vec(q, n, n, x);
-    dense::sub(&qx[..n], c, n)
+    let mut qx = [0.0; sizes::VARIABLES];
+    matrix::mul_vec(q, n, n, x, &mut qx);
+    vector::sub(&qx[..n], c, n, gradient);
 }
 
 // The size of the terms that the multipliers are differences of. `q_amax` is q.amax(), `linear` is c.amax().max(slope_amax).
@@ -264,8 +271,10 @@ fn release(
     let x = board.x;
     let state = board.state;
     let refused = board.refused;
-    let gradient = gradient(q, c, n, &x[..n]);
-    let pushback = dense::mul_vec(e, n, m, multipliers);
+    let mut gradient = [0.0; sizes::VARIABLES];
+    gradient_at(q, c, n, &x[..n], &mut gradient);
+    let mut pushback = [0.0; sizes::VARIABLES];
+    matrix::mul_vec(e, n, m, multipliers, &mut pushback);
     let scale = scale(q_amax, linear, &x[..n], originals, &pushback[..n], n);
     releasing::release(
         segments,

@@ -3,7 +3,7 @@ use Prim.Native.Nat.{ℕ, zero, suc, _+_}
 use mathlib.Core.Path.{_≡_}
 use mathlib.Core.Bool.{Bool, true, false}
 use mathlib.Core.List.{List, [], _∷_, _++_}
-use lib.ListN.{getD}
+use lib.ListN.{getD, length}
 use lib.Ieee.{Float}
 use Rattle.folds.specs.Fold.{tab}
 use Rattle.folds.specs.Chosen.{chosen}
@@ -60,3 +60,8 @@ upperEnds k n segments state = entries Upper k n segments state
 -- `free.iter().map(|(s, j)| s.slopes[*j]).take(solved.len())`
 abbrev pub slopes : (k n : ℕ) (segments : List Segments) (state : List Spot) → List Float
 slopes k n segments state = entries Slope k n segments state
+
+-- the ends of every free variable's segment
+pub record Ends (n : ℕ) (segments : List Segments) (state : List Spot) (lower upper : List Float) : Type 0 where
+  pub lower-is : lower ≡ lowerEnds (length (freeIndices n state)) n segments state
+  pub upper-is : upper ≡ upperEnds (length (freeIndices n state)) n segments state

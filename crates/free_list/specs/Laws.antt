@@ -4,22 +4,25 @@ use mathlib.Core.Path.{_≡_, refl, sym, subst, _∙_}
 use mathlib.Core.Bool.{Bool}
 use mathlib.Core.List.{List, [], _∷_, _++_, append-nil}
 use mathlib.Core.Logic.{⊎-elim}
-use Prim.Native.Nat.{ℕ, zero, suc, _<_, _≤_}
+use Prim.Native.Nat.{ℕ, zero, suc, _+_, _<_, _≤_}
 use native.Mathlib.Nat.{not-suc-le-zero, eq-or-lt-of-le}
 use native.Mathlib.Omega.{arith}
 use lib.ListN.{length, getD, take, length-append, List·getD-append}
 use lib.Seq.{getD-at}
-use Rattle.folds.specs.Fold.{pick}
-use Rattle.folds.specs.Tab.{length-tab}
+use lib.Ieee.{Float}
+use Rattle.folds.specs.Fold.{pick, tab, over}
+use Rattle.folds.specs.Tab.{length-tab, getD-tab, tab-same, part-tab, over-in, taken-over}
 use Rattle.folds.specs.Chosen.{chosen, length-chosen, chosen-below, chosen-rises, chosen-lead, chosen-from}
 use Rattle.folds.specs.Position.{partitionPoint, split-chosen}
-use Rattle.segments.specs.Segments.{stateAt, IsFree}
+use Rattle.arith.specs.Float.{f0}
+use Rattle.segments.specs.Segments.{segmentsAt, stateAt, IsFree}
 use Rattle.segments.specs.declared.Segments.{Segments}
 use Rattle.segments.specs.declared.State.{State}
 use Rattle.segments.specs.declared.State.the-variants.{At, Free}
 use Rattle.segments.specs.declared.Spot.{Spot}
 use Rattle.free_list.specs.declared.Entry.{Entry}
-use Rattle.free_list.specs.FreeList.{isFree, freeIndices, segmentIn, freeSegments, entries}
+use Rattle.free_list.specs.declared.Entry.the-variants.{Lower, Upper}
+use Rattle.free_list.specs.FreeList.{isFree, freeIndices, segmentIn, freeSegments, entryAt, entries, lowerEnds, upperEnds, Ends}
 
 -- ---- the free variables: below n, and rising
 module _ (n : ℕ) (state : List Spot) where
@@ -103,3 +106,28 @@ module _ (n : ℕ) (state : List Spot) {l : List ℕ} (e : l ≡ freeIndices n s
 pub length-entries : (which : Entry) (k n : ℕ) (segments : List Segments) (state : List Spot) → length (entries which k n segments state) ≡ k
 unfolding entries
 length-entries which k n segments state = length-tab k _
+
+module _ (n : ℕ) (segments : List Segments) (state : List Spot) where
+  -- a shorter list is the start of a longer one
+  pub taken-entries : (which : Entry) (k count : ℕ) {r : List Float} (o : List Float) → k ≤ count → count ≤ length r →
+      r ≡ over (entries which count n segments state) o → take k r ≡ entries which k n segments state
+  unfolding entries
+  taken-entries which k count {r} o h l e =
+      let read : ℕ → Float = λ t. entryAt which (segmentsAt segments (getD (freeIndices n state) t 0)) (getD (freeSegments n state) t 0) in
+      part-tab f0 0 k r (omega arith)
+      ∙ tab-same k _ read
+      (λ i g.
+      let z : i + 0 ≡ i = omega arith in
+      let u : i < count = omega arith in
+      let v : i < length (tab count read) = rw (length-tab count read) u in
+      rw (z, e, over-in f0 (tab count read) o i v, getD-tab f0 count i read u))
+
+  -- what is written over the start of two lists, for the free variables listed
+  pub ends-taken : {l : List ℕ} {lower upper : List Float} (o p : List Float) → l ≡ freeIndices n state →
+      lower ≡ over (lowerEnds (length l) n segments state) o → upper ≡ over (upperEnds (length l) n segments state) p →
+      Ends n segments state (take (length l) lower) (take (length l) upper)
+  ends-taken o p e f g =
+      record {
+        lower-is = rw (← e) (taken-over _ o (length-entries Lower _ n segments state) f);
+        upper-is = rw (← e) (taken-over _ p (length-entries Upper _ n segments state) g);
+      }

@@ -73,83 +73,33 @@ fn entry_of(which: Entry, spot: Spot, s: Segments) -> f64
     entry_at(which, s, segments::segment_of(state))
 }
 
-// Those of the first k of the free variables.
-fn entries(
-    which: Entry,
+// Each free variable's segment: its ends, and the slope on it.
+pub fn ends_and_slopes(
     segments: [Segments; sizes::VARIABLES],
     state: [Spot; sizes::VARIABLES],
     n: usize,
     indices: &[usize],
-    k: usize,
-    y: &mut [f64],
-)
-    requires { ⌜ (n ≤ Sizes.variables)
-        × AllCut n segments
-        × AllPlaced n segments state
-        × (now indices ≡ FreeList.freeIndices n state)
-        × (k ≤ length (now indices))
-        × (k ≤ length (now y)) ⌝ }
-    ensures { λ _. ⌜ now (y .exit) ≡ over (FreeList.entries which k n segments state) (now (y .entry)) ⌝ }
-{
-    for t in 0..k {
-        let i = indices[t];
-        y[t] = entry_of(which, state[i], segments[i]);
-    }
-}
-
-pub fn lower_ends(
-    segments: [Segments; sizes::VARIABLES],
-    state: [Spot; sizes::VARIABLES],
-    n: usize,
-    indices: &[usize],
-    k: usize,
     lower: &mut [f64],
-)
-    requires { ⌜ (n ≤ Sizes.variables)
-        × AllCut n segments
-        × AllPlaced n segments state
-        × (now indices ≡ FreeList.freeIndices n state)
-        × (k ≤ length (now indices))
-        × (k ≤ length (now lower)) ⌝ }
-    ensures { λ _. ⌜ now (lower .exit) ≡ over (FreeList.lowerEnds k n segments state) (now (lower .entry)) ⌝ }
-{
-    entries(Entry::Lower, segments, state, n, indices, k, lower);
-}
-
-pub fn upper_ends(
-    segments: [Segments; sizes::VARIABLES],
-    state: [Spot; sizes::VARIABLES],
-    n: usize,
-    indices: &[usize],
-    k: usize,
     upper: &mut [f64],
-)
-    requires { ⌜ (n ≤ Sizes.variables)
-        × AllCut n segments
-        × AllPlaced n segments state
-        × (now indices ≡ FreeList.freeIndices n state)
-        × (k ≤ length (now indices))
-        × (k ≤ length (now upper)) ⌝ }
-    ensures { λ _. ⌜ now (upper .exit) ≡ over (FreeList.upperEnds k n segments state) (now (upper .entry)) ⌝ }
-{
-    entries(Entry::Upper, segments, state, n, indices, k, upper);
-}
-
-pub fn slopes(
-    segments: [Segments; sizes::VARIABLES],
-    state: [Spot; sizes::VARIABLES],
-    n: usize,
-    indices: &[usize],
-    k: usize,
     slope: &mut [f64],
 )
     requires { ⌜ (n ≤ Sizes.variables)
         × AllCut n segments
         × AllPlaced n segments state
         × (now indices ≡ FreeList.freeIndices n state)
-        × (k ≤ length (now indices))
-        × (k ≤ length (now slope)) ⌝ }
-    ensures { λ _. ⌜ now (slope .exit) ≡ over (FreeList.slopes k n segments state) (now (slope .entry)) ⌝ }
+        × (length (now indices) ≤ length (now lower))
+        × (length (now indices) ≤ length (now upper))
+        × (length (now indices) ≤ length (now slope)) ⌝ }
+    ensures { λ _. ⌜ (now (lower .exit) ≡ over (FreeList.lowerEnds (length (now (indices .entry))) n segments state) (now (lower .entry)))
+        × (now (upper .exit) ≡ over (FreeList.upperEnds (length (now (indices .entry))) n segments state) (now (upper .entry)))
+        × (now (slope .exit) ≡ over (FreeList.slopes (length (now (indices .entry))) n segments state) (now (slope .entry))) ⌝ }
 {
-    entries(Entry::Slope, segments, state, n, indices, k, slope);
+    for t in 0..indices.len() {
+        let i = indices[t];
+        let s = lent_segments::segment(segments, i);
+        let spot = state[i];
+        lower[t] = entry_of(Entry::Lower, spot, s);
+        upper[t] = entry_of(Entry::Upper, spot, s);
+        slope[t] = entry_of(Entry::Slope, spot, s);
+    }
 }

@@ -103,7 +103,7 @@ fn otherwise(
     let verdict = s.verdict;
     let x = s.x;
     let multipliers = s.multipliers;
-    let dropped = factoring.reset();
+    let dropped = kept_factor::dropped(factoring);
     Solved {
         verdict: verdict,
         x: x,
@@ -213,7 +213,7 @@ pub fn solve_free(
         (now (l .entry)) ⌝ }
     ensures { λ r. ⌜ Good originals (r .factoring) (now (l .exit)) ⌝ }
 {
-    let updated = factoring.update(q, n, originals, solved, l, room);
+    let updated = kept_factor::updated(factoring, q, n, originals, solved, l, room);
     after_update(
         updated,
         l,

@@ -2,11 +2,13 @@
 // along a direction of zero curvature. The free variables `indices` are `solved` and, after them, `slacks`.
 ghost use mathlib.Core.Path.{_≡_};
 ghost use Prim.Native.Nat.{_≤_, _+_, _-_, _*_};
-ghost use lib.ListN.{length, take};
+ghost use lib.ListN.{length};
+ghost use Rattle.folds.specs.Fold.{over};
 ghost use Rattle.sizes.specs.Sizes as Sizes;
 ghost use Rattle.vector.specs.Vector.{Below};
 ghost use Rattle.noisy_kkt.specs.Room.{Squares, Tall};
 ghost use Rattle.segments.specs.Segments.{AllCut};
+ghost use Rattle.free_list.specs.FreeList.{Ends};
 ghost use Rattle.slack_rows.specs.SlackRows.{Rows, Solved, withSlackSteps};
 ghost use Rattle.ray.specs.Ray.{rayOf};
 ghost use Rattle.iterate.specs.Problem.{firstSlackColumn};
@@ -30,20 +32,20 @@ fn slack_steps(
     slacks: &[usize],
     step: &[f64],
     residuals: &[f64],
-) -> [f64; sizes::VARIABLES]
+    all: &mut [f64],
+)
     requires { ⌜ (originals ≤ n)
         × (n - originals ≤ m)
         × Solved n m (now e) (now solved)
         × Rows n m originals (firstSlackColumn originals n m) (now slacks)
         × (length (now solved) ≤ length (now step))
         × (m ≤ length (now residuals))
-        × (length (now solved) + length (now slacks) ≤ Sizes.variables) ⌝ }
-    ensures { λ r. ⌜ take (length (now (solved .entry)) + length (now (slacks .entry))) r
-        ≡ withSlackSteps (now (e .entry)) n (now (solved .entry)) (now (slacks .entry)) (now (step .entry)) (now (residuals .entry))
-        originals (firstSlackColumn originals n m) ⌝ }
+        × (length (now solved) + length (now slacks) ≤ length (now all)) ⌝ }
+    ensures { λ _. ⌜ now (all .exit)
+        ≡ over (withSlackSteps (now (e .entry)) n (now (solved .entry)) (now (slacks .entry)) (now (step .entry)) (now (residuals .entry))
+        originals (firstSlackColumn originals n m)) (now (all .entry)) ⌝ }
 {
     let first = m - (n - originals);
-    let mut all = [0.0; sizes::VARIABLES];
     slack_rows::with_slack_steps(
         e,
         n,
@@ -54,9 +56,8 @@ fn slack_steps(
         residuals,
         originals,
         first,
-        &mut all,
+        all,
     );
-    all
 }
 
 // The minimum on the free variables, as the step `delta` from x.
@@ -79,6 +80,8 @@ pub fn minimum(
     residuals: &[f64],
     delta: &[f64],
     multipliers: &[f64],
+    lower: &[f64],
+    upper: &[f64],
 ) -> Passed
     requires { ⌜ Shape originals n m (now q) (now c) (now e)
         × AllCut n segments
@@ -88,14 +91,26 @@ pub fn minimum(
         × (m ≤ length (now residuals))
         × (length (now solved) ≤ length (now delta))
         × (length (now kept) ≤ length (now multipliers))
-        × Below (length (now kept)) (now kept) m ⌝ }
+        × Below (length (now kept)) (now kept) m
+        × Ends n segments (iterate .board .state) (now lower) (now upper) ⌝ }
     ensures { λ r. ⌜ FreeStep.AfterMinimum originals n m (now (q .entry)) (now (c .entry)) (now (e .entry)) segments (now (fixed .entry))
         «q_amax» linear (now (solved .entry)) (now (slacks .entry)) (now (kept .entry)) (now (residuals .entry)) (now (delta .entry))
         (now (multipliers .entry)) iterate r ⌝ }
     ensures { λ r. ⌜ Kept n segments (r .iterate) ⌝ }
 {
     let all = slack_rows::all_multipliers(multipliers, kept, m);
-    let step = slack_steps(e, n, m, originals, solved, slacks, delta, residuals);
+    let mut step = [0.0; sizes::VARIABLES];
+    slack_steps(
+        e,
+        n,
+        m,
+        originals,
+        solved,
+        slacks,
+        delta,
+        residuals,
+        &mut step,
+    );
     let count = indices.len();
     full_step::toward(
         iterate,
@@ -112,6 +127,8 @@ pub fn minimum(
         indices,
         solved.len(),
         &step[..count],
+        lower,
+        upper,
         all,
     )
 }
@@ -140,10 +157,13 @@ fn on_ray(
     solved: &[usize],
     slacks: &[usize],
     ray: Ray,
+    lower: &[f64],
+    upper: &[f64],
 ) -> Passed
     requires { ⌜ AllCut n segments
         × Kept n segments iterate
-        × Split originals n m (now e) (iterate .board .state) (now indices) (now solved) (now slacks) ⌝ }
+        × Split originals n m (now e) (iterate .board .state) (now indices) (now solved) (now slacks)
+        × Ends n segments (iterate .board .state) (now lower) (now upper) ⌝ }
     ensures { λ r. ⌜ passedOf n m r
         ≡ FreeStep.onRay originals n m (now (e .entry)) segments (now (solved .entry)) (now (slacks .entry)) iterate
         (rayOf (length (now (solved .entry))) ray) ⌝ }
@@ -154,7 +174,8 @@ fn on_ray(
         let count = indices.len();
         let direction = ray.direction;
         let none = [0.0; sizes::COLUMNS];
-        let all = slack_steps(
+        let mut all = [0.0; sizes::VARIABLES];
+        slack_steps(
             e,
             n,
             m,
@@ -163,8 +184,9 @@ fn on_ray(
             slacks,
             &direction[..k],
             &none[..m],
+            &mut all,
         );
-        return full_step::along(iterate, segments, n, indices, &all[..count]);
+        return full_step::along(iterate, segments, n, indices, &all[..count], lower, upper);
     }
     iterate::ended(Ending::SingularCovariance, iterate)
 }
@@ -185,6 +207,8 @@ pub fn descend(
     q_free: &[f64],
     e_free: &[f64],
     columns: usize,
+    lower: &[f64],
+    upper: &[f64],
     ks: &mut [f64],
     es: &mut [f64],
     left: &mut [f64],
@@ -207,7 +231,8 @@ pub fn descend(
         × (length (now solved) * length (now solved) ≤ length (now ks))
         × (length (now solved) * columns ≤ length (now es))
         × Tall (length (now solved)) columns (now left) (now coefficients) (now range)
-        × Squares (length (now solved)) (now qq) (now null) (now h) (now vectors) ⌝ }
+        × Squares (length (now solved)) (now qq) (now null) (now h) (now vectors)
+        × Ends n segments (iterate .board .state) (now lower) (now upper) ⌝ }
     ensures { λ r. ⌜ passedOf n m r
         ≡ FreeStep.descend originals n m (now (e .entry)) segments (now (solved .entry)) (now (slacks .entry)) (now («c_free» .entry))
         (now (gradient .entry)) (now («q_free» .entry)) (now («e_free» .entry)) columns iterate ⌝ }
@@ -244,5 +269,7 @@ pub fn descend(
         solved,
         slacks,
         ray,
+        lower,
+        upper,
     )
 }

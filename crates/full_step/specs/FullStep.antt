@@ -1,6 +1,6 @@
 -- qp.rs, the step of a pass of `solve_piecewise_in_units`: toward the minimum on the free variables, or along a direction of zero curvature, until
 -- a variable reaches an end of its segment.
-use Prim.Native.Nat.{ℕ, _≤_}
+use Prim.Native.Nat.{ℕ}
 use mathlib.Core.Path.{_≡_}
 use mathlib.Core.Bool.{Bool}
 use mathlib.Core.List.{List}
@@ -11,24 +11,13 @@ use Rattle.vector.specs.Vector.{add, sub, select}
 use Rattle.segments.specs.declared.Segments.{Segments}
 use Rattle.free_list.specs.FreeList.{freeIndices, lowerEnds, upperEnds}
 use Rattle.blocking.specs.Blocking.{ratioTest, stepTolerance, blocking}
-use Rattle.blocking.specs.declared.Board.{Board}
 use Rattle.blocking.specs.declared.Hit.{Hit}
 use Rattle.blocking.specs.declared.Hit.the-variants.{Found, Nothing}
 use Rattle.iterate.specs.Problem.{Problem, problem}
 use Rattle.iterate.specs.Iterate.{Result, unbounded, passedOf}
 use Rattle.iterate.specs.declared.Iterate.{Iterate}
 use Rattle.iterate.specs.declared.Passed.{Passed}
-use Rattle.full_step.specs.declared.FreeVariables.{FreeVariables}
 use Rattle.advance.specs.Advance.{stopped, blocked, settled, release, decided}
-
--- `let x_free = x.select_rows(&indices)`, and the ends of the segments, in what the code leaves
-pub record Gathered (k n : ℕ) (segments : List Segments) (indices : List ℕ) (board : Board) (r : FreeVariables) : Type 0 where
-  pub x-holds : k ≤ length (r .x)
-  pub lower-holds : k ≤ length (r .lower)
-  pub upper-holds : k ≤ length (r .upper)
-  pub x-taken : take k (r .x) ≡ select k (take n (board .x)) indices
-  pub lower-taken : take k (r .lower) ≡ lowerEnds k n segments (board .state)
-  pub upper-taken : take k (r .upper) ≡ upperEnds k n segments (board .state)
 
 -- ---- toward the target
 -- `if let Some((step, k, side)) = blocking { .. continue; }`, with the step along `target - x_free`; else the whole step, and the release

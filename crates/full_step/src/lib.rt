@@ -1,6 +1,5 @@
 // qp.rs, the step of a pass of `solve_piecewise_in_units`: toward the minimum on the free variables, or along a direction of zero curvature, until
 // a variable reaches an end of its segment. `indices` are the free variables.
-use blocking::Board;
 use blocking::Hit;
 use iterate::Ending;
 use iterate::Iterate;
@@ -10,57 +9,12 @@ ghost use mathlib.Core.Path.{_≡_};
 ghost use Prim.Native.Nat.{_≤_};
 ghost use lib.ListN.{length, take};
 ghost use Rattle.sizes.specs.Sizes as Sizes;
-ghost use Rattle.vector.specs.Vector.{Below, select};
 ghost use Rattle.segments.specs.Segments.{AllCut, AllPlaced};
-ghost use Rattle.free_list.specs.FreeList.{freeIndices};
+ghost use Rattle.free_list.specs.FreeList.{Ends, freeIndices};
 ghost use Rattle.blocking.specs.Blocking.{Entries};
 ghost use Rattle.iterate.specs.Iterate.{passedOf, Kept};
 ghost use Rattle.advance.specs.Advance.{Shape, Gives};
 ghost use Rattle.full_step.specs.FullStep as FullStep;
-ghost use Rattle.full_step.specs.FullStep.{Gathered};
-
-// The elements of a that the list names.
-fn selected(a: &[f64], n: usize, list: &[usize]) -> [f64; sizes::VARIABLES]
-    requires { ⌜ (n ≤ length (now a)) × (length (now list) ≤ Sizes.variables) × Below (length (now list)) (now list) n ⌝ }
-    ensures { λ r. ⌜ take (length (now (list .entry))) r ≡ select (length (now (list .entry))) (now (a .entry)) (now (list .entry)) ⌝ }
-{
-    let mut y = [0.0; sizes::VARIABLES];
-    vector::select(a, n, list, list.len(), &mut y);
-    y
-}
-
-// The free variables, and the ends of their segments.
-struct FreeVariables {
-    x: [f64; sizes::VARIABLES],
-    lower: [f64; sizes::VARIABLES],
-    upper: [f64; sizes::VARIABLES],
-}
-
-fn free_variables(
-    board: Board,
-    segments: [Segments; sizes::VARIABLES],
-    n: usize,
-    indices: &[usize],
-) -> FreeVariables
-    requires { ⌜ (n ≤ Sizes.variables)
-        × AllCut n segments
-        × AllPlaced n segments (board .state)
-        × (now indices ≡ freeIndices n (board .state)) ⌝ }
-    ensures { λ r. ⌜ Gathered (length (now (indices .entry))) n segments (now (indices .entry)) board r ⌝ }
-{
-    let x = board.x;
-    let state = board.state;
-    let mut lower = [0.0; sizes::VARIABLES];
-    let mut upper = [0.0; sizes::VARIABLES];
-    free_list::lower_ends(segments, state, n, indices, indices.len(), &mut lower);
-    free_list::upper_ends(segments, state, n, indices, indices.len(), &mut upper);
-    let x_free = selected(&x[..n], n, indices);
-    FreeVariables {
-        x: x_free,
-        lower: lower,
-        upper: upper,
-    }
-}
 
 // Toward the target: to where the first free variable passes an end of its segment, or the whole step.
 fn stepped(
@@ -119,7 +73,8 @@ fn stepped(
             multipliers,
         );
     };
-    let direction = dense::sub(target, x_free, count);
+    let mut direction = [0.0; sizes::VARIABLES];
+    vector::sub(target, x_free, count, &mut direction);
     advance::blocked(
         iterate,
         segments,
@@ -191,6 +146,8 @@ pub fn toward(
     indices: &[usize],
     solved: usize,
     step: &[f64],
+    lower: &[f64],
+    upper: &[f64],
     multipliers: [f64; sizes::COLUMNS],
 ) -> Passed
     requires { ⌜ Shape originals n m (now q) (now c) (now e)
@@ -199,18 +156,19 @@ pub fn toward(
         × (n ≤ length (now fixed))
         × (now indices ≡ freeIndices n (iterate .board .state))
         × (solved ≤ length (now indices))
-        × (length (now indices) ≤ length (now step)) ⌝ }
+        × (length (now indices) ≤ length (now step))
+        × Ends n segments (iterate .board .state) (now lower) (now upper) ⌝ }
     ensures { λ r. ⌜ FullStep.Toward originals n m (now (q .entry)) (now (c .entry)) (now (e .entry)) segments (now (fixed .entry)) «q_amax» linear
         solved (now (step .entry)) (take m multipliers) iterate r ⌝ }
     ensures { λ r. ⌜ Kept n segments (r .iterate) ⌝ }
 {
     let board = iterate.board;
     let count = indices.len();
-    let free = free_variables(board, segments, n, indices);
-    let x_free = free.x;
-    let lower = free.lower;
-    let upper = free.upper;
-    let target = dense::add(&x_free[..count], step, count);
+    let x = board.x;
+    let mut x_free = [0.0; sizes::VARIABLES];
+    vector::select(&x[..n], n, indices, count, &mut x_free);
+    let mut target = [0.0; sizes::VARIABLES];
+    vector::add(&x_free[..count], step, count, &mut target);
     stepped(
         iterate,
         segments,
@@ -227,8 +185,8 @@ pub fn toward(
         solved,
         &x_free[..count],
         &target[..count],
-        &lower[..count],
-        &upper[..count],
+        lower,
+        upper,
         multipliers,
     )
 }
@@ -240,21 +198,23 @@ pub fn along(
     n: usize,
     indices: &[usize],
     direction: &[f64],
+    lower: &[f64],
+    upper: &[f64],
 ) -> Passed
     requires { ⌜ (n ≤ Sizes.variables)
         × AllCut n segments
         × AllPlaced n segments (iterate .board .state)
         × (now indices ≡ freeIndices n (iterate .board .state))
-        × (length (now indices) ≤ length (now direction)) ⌝ }
+        × (length (now indices) ≤ length (now direction))
+        × Ends n segments (iterate .board .state) (now lower) (now upper) ⌝ }
     ensures { λ r. ⌜ Gives n r (FullStep.along n segments (now (direction .entry)) iterate) ⌝ }
     ensures { λ r. ⌜ Kept n segments (r .iterate) ⌝ }
 {
     let board = iterate.board;
     let count = indices.len();
-    let free = free_variables(board, segments, n, indices);
-    let x_free = free.x;
-    let lower = free.lower;
-    let upper = free.upper;
+    let x = board.x;
+    let mut x_free = [0.0; sizes::VARIABLES];
+    vector::select(&x[..n], n, indices, count, &mut x_free);
     ray_step(
         iterate,
         segments,
@@ -262,7 +222,7 @@ pub fn along(
         indices,
         &x_free[..count],
         direction,
-        &lower[..count],
-        &upper[..count],
+        lower,
+        upper,
     )
 }

@@ -38,18 +38,15 @@ mul-i c = search needs
 shared-slice-read-i : tie.Need-shared-slice-read-i
 shared-slice-read-i c = search needs
 
-mul-block : tie.Need-mul-block
-mul-block c = let s = c .before .before .before .before .before .before .before .before .before .before in omega (arith, below s, s .pre .0)
-
-array-copy-out-block : tie.Need-array-copy-out-block
-array-copy-out-block c =
-    let s = c .before .before .before .before .before .before .before .before .before .before in omega (arith, below s, s .pre .0)
+segment-requires : tie.Need-segment-requires
+segment-requires c κs = let s = c .before .before .before .before .before .before .before .before .before .before in omega (arith, below s, s .pre .0)
 
 block-requires : tie.Need-block-requires
 block-requires c κs =
     let s = c .before .before .before .before .before .before .before .before .before .before .before in
     let p = s .pre in
     let i = index (s .args .indices .now) (s .args .k) in
+    rw (c .segment .ensures)
     (omega (arith, below s, p .0), p .1 i (below s), listed-free (s .args .n) (s .args .board .state) (p .3) (s .args .k) (p .5), p .2 i (below s))
 
 returns : tie.Need-returns
@@ -59,17 +56,17 @@ returns c =
     let a = s .args in
     let p = s .pre in
     let j = index (freeSegments (a .n) (a .board .state)) (a .k) in
-    let e : c .block .result ≡ stopped (a .n) (a .t2) (a .indices .now) (a .x-free .now) (a .direction .now) (a .lower .now) (a .upper .now)
+    let e : c .block .result ≡ stopped (a .n) (a .segments) (a .indices .now) (a .x-free .now) (a .direction .now) (a .lower .now) (a .upper .now)
     (a .step) (a .k) (a .side) (a .released) (a .board) =
-    rw (← c .before .before .before .before .move-along .ensures)
+    rw (← c .before .before .before .before .move-along .ensures, ← c .before .segment .ensures)
     (c .block .ensures j (listed-segment (a .n) (a .board .state) (p .3) (a .k) (p .5))) in (
       e,
-      subst (λ (b : Board). AllPlaced (a .n) (a .t2) (b .state)) (sym e)
-          (stopped-placed (a .n) (a .t2) (a .indices .now) (a .x-free .now) (a .direction .now) (a .lower .now) (a .upper .now) (a .step) (a .k)
+      subst (λ (b : Board). AllPlaced (a .n) (a .segments) (b .state)) (sym e)
+          (stopped-placed (a .n) (a .segments) (a .indices .now) (a .x-free .now) (a .direction .now) (a .lower .now) (a .upper .now) (a .step) (a .k)
           (a .side) (a .released) (a .board) (omega (arith, p .0, states s)) (p .3) (p .5) (p .2)),
     )
 
 pub stopped-spec : {M : Type 1} → statement M
 stopped-spec =
     tie.close
-    (tie.spec slice-aggregate-move-along move-along-requires mul-i shared-slice-read-i mul-block array-copy-out-block block-requires returns)
+    (tie.spec slice-aggregate-move-along move-along-requires mul-i shared-slice-read-i segment-requires block-requires returns)

@@ -16,7 +16,7 @@ otherwise-spec =
     tie.close
     (tie.spec
     (λ c κs. start (c .before .before .before .before .before .before .before .before .before) .pre)  -- solve-noisy-kkt-requires
-    (λ c κs. search kit)  -- reset-requires
+    (λ c κs. search kit)  -- dropped-requires
     (λ c. search kit)  -- same-length
     (λ c. search kit)  -- same-length-2
     (λ c. search kit)  -- same-length-3
@@ -27,4 +27,4 @@ otherwise-spec =
     (λ c. search kit)  -- same-length-8
     (λ c. search kit)  -- same-length-9
     (λ c. let s = solved (c .before .before .before) in
-    λ l. otherwise-from _ l _ _ _ _ _ (s .solve-noisy-kkt .ensures) (c .reset .ensures)))  -- returns
+    λ l. otherwise-from _ l _ _ _ _ _ (s .solve-noisy-kkt .ensures) (c .dropped .ensures)))  -- returns

@@ -5,7 +5,7 @@ use Rattle.free_solve.specs.Laws.{good-left, free-from, good-solve, regu
 use Rattle.free_solve.proofs.solve_free.Statement.{statement}
 use Rattle.free_solve.proofs.solve_free.Tie as tie
 
-abbrev start : tie.After-update-arg2 → tie.Start
+abbrev start : tie.After-updated-arg2 → tie.Start
 start c =
     let s = c .before .before .before .before .before .before .before .before in
     s .before .before .before .before .before .before .before .before .before .before .before .before
@@ -15,7 +15,7 @@ called c =
     let s = c .before .before .before .before .before .before .before .before in
     s .before .before .before .before .before .before .before .before .before .before .before .before
 
-abbrev updated : tie.After-after-update → tie.After-update
+abbrev updated : tie.After-after-update → tie.After-updated
 updated c = c .before .before .before .before .before .before .before .before .before .before .before .before .before .before .before .before
 
 listed : (c : tie.Start) → length (c .args .solved .now) ≤ c .args .originals
@@ -27,8 +27,8 @@ after-update-requires c κs =
     let s = start (u .before) in
     let p = s .pre in (
       p .5,
-      regular-from _ (p .0 .few) _ _ _ _ _ (p .1) (p .2) (u .update .ensures .0)
-          (omega (arith, area (listed s) (listed s), p .3, u .update .kept .1 .1 .1 .1 .1 .0)),
+      regular-from _ (p .0 .few) _ _ _ _ _ (p .1) (p .2) (u .updated .ensures .0)
+          (omega (arith, area (listed s) (listed s), p .3, u .updated .kept .1 .1 .1 .1 .1 .0)),
       p .6,
     )
 
@@ -37,7 +37,7 @@ returns c =
     let a = called c in
     let u = updated a in
     let p = start (u .before) .pre in
-    let g = u .update .ensures .0 in
+    let g = u .updated .ensures .0 in
     let e = free-from _ _ _ _ _ _ _ g (a .after-update .ensures) in
     (e, good-left _ _ _ _ _ e _ (good-solve _ (p .0 .few) _ _ _ _ _ (p .1) (p .2) g _ _))
 
@@ -45,9 +45,9 @@ pub solve-free-spec : {M : Type 1} → statement M
 solve-free-spec =
     tie.close
     (tie.spec
-    (λ c κs. let p = start c .pre in (p .0, p .1, p .2, p .3, p .4))  -- update-requires
+    (λ c κs. let p = start c .pre in (p .0, p .1, p .2, p .3, p .4))  -- updated-requires
     after-update-requires
-    (λ c. updated (called c) .update .kept .1 .1 .1 .1 .1 .1 .0)  -- same-length
+    (λ c. updated (called c) .updated .kept .1 .1 .1 .1 .1 .1 .0)  -- same-length
     (λ c. called c .after-update .kept .1 .1 .1 .1 .1 .1 .1 .1 .1 .0)  -- same-length-2
     (λ c. called c .after-update .kept .1 .1 .1 .1 .1 .1 .1 .1 .1 .1 .0)  -- same-length-3
     (λ c. called c .after-update .kept .1 .1 .1 .1 .1 .1 .1 .1 .1 .1 .1 .0)  -- same-length-4
@@ -58,5 +58,5 @@ solve-free-spec =
     (λ c. called c .after-update .kept .1 .1 .1 .1 .1 .1 .1 .1 .1 .1 .1 .1 .1 .1 .1 .1 .0)  -- same-length-9
     (λ c. called c .after-update .kept .1 .1 .1 .1 .1 .1 .1 .1 .1 .1 .1 .1 .1 .1 .1 .1 .1 .0)  -- same-length-10
     (λ c. called c .after-update .kept .1 .1 .1 .1 .1 .1 .1 .1 .1 .1 .1 .1 .1 .1 .1 .1 .1 .1 .0)  -- same-length-11
-    (λ c. updated (called c) .update .kept .1 .1 .1 .1 .1 .0)  -- same-length-12
+    (λ c. updated (called c) .updated .kept .1 .1 .1 .1 .1 .0)  -- same-length-12
     returns)

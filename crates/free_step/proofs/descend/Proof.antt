@@ -4,8 +4,11 @@ use Rattle.free_step.specs.FreeStep.{descend}
 use Rattle.free_step.proofs.descend.Statement.{statement}
 use Rattle.free_step.proofs.descend.Tie as tie
 
+abbrev shared : tie.After-shared-slice-known10 → tie.Start
+shared c = c .before .before .before .before .before .before .before .before .before .before
+
 abbrev first : tie.After-slice-known9 → tie.Start
-first c = c .before .before .before .before .before .before .before .before .before .before .before .before .before .before .before .before .before
+first c = shared (c .before .before .before .before .before .before .before .before .before)
 
 abbrev start : tie.After-all-zero → tie.Start
 start c = first (c .before)
@@ -32,7 +35,7 @@ descent-ray-requires c κs =
     (p .3, p .4, p .7, p .6, p .8, p .9, p .10, p .11, p .12)
 
 on-ray-requires : tie.Need-on-ray-requires
-on-ray-requires c κs = let p = start (left-at (ray-at (c .before)) .before) .pre in (p .0, p .1, p .2)
+on-ray-requires c κs = let p = start (left-at (ray-at (c .before)) .before) .pre in (p .0, p .1, p .2, p .13)
 
 returns-2 : tie.Need-returns-2
 unfolding descend pick

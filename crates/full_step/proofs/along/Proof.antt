@@ -1,39 +1,60 @@
-use Rattle.folds.specs.Kit.{sym, arith, length}
+use Rattle.folds.specs.Kit.{_≡_, _≤_, sym, arith, length, needs}
+use native.Mathlib.Nat.{le-refl}
+use Rattle.folds.specs.Tab.{taken-over}
 use lib.Seq.{length-take-le}
+use Rattle.sizes.specs.Sizes as Sizes
+use Rattle.vector.specs.Laws.{length-select}
+use Rattle.free_list.specs.Laws.{listed-below}
 use Rattle.full_step.specs.FullStep.{along}
+use Rattle.full_step.specs.Laws.{listed-few, listed-entries}
 use Rattle.full_step.proofs.along.Statement.{statement}
 use Rattle.full_step.proofs.along.Tie as tie
 
+abbrev start : tie.After-x-free → tie.Start
+start c = c .before .before .before .before .before .before .before .before
+
+x-holds : (c : tie.Start) → c .args .n ≤ length (c .args .iterate .board .x)
+x-holds c = let e : length (c .args .iterate .board .x) ≡ Sizes.variables = search needs in omega arith
+
+few : (c : tie.Start) → length (c .args .indices .now) ≤ Sizes.variables
+few c = omega (arith, listed-few (c .args .n) (c .args .iterate .board .state) (c .pre .3), c .pre .0)
+
+slice-aggregate-select : tie.Need-slice-aggregate-select
+slice-aggregate-select c = sym (length-take-le _ _ (x-holds (c .before .before .before .before .before .before .before)))
+
+select-requires : tie.Need-select-requires
+select-requires c κs =
+    let s = start c in (
+      omega (arith, slice-aggregate-select (c .before)),
+      le-refl _,
+      omega (arith, few s),
+      listed-below (s .args .n) (s .args .iterate .board .state) (s .pre .3),
+    )
+
+x-free-holds : tie.Need-array-share-prefix-x-free
+x-free-holds c = omega (arith, few (start (c .before .before)))
+
 slice-aggregate-ray-step : tie.Need-slice-aggregate-ray-step
-slice-aggregate-ray-step c = sym (length-take-le _ _ (c .before .before .before .before .free-variables .ensures .x-holds))
-
-slice-aggregate-ray-step-2 : tie.Need-slice-aggregate-ray-step-2
-slice-aggregate-ray-step-2 c = sym (length-take-le _ _ (c .before .before .before .before .before .free-variables .ensures .lower-holds))
-
-slice-aggregate-ray-step-3 : tie.Need-slice-aggregate-ray-step-3
-slice-aggregate-ray-step-3 c = sym (length-take-le _ _ (c .before .before .before .before .before .before .free-variables .ensures .upper-holds))
+slice-aggregate-ray-step c = sym (length-take-le _ _ (x-free-holds (c .before)))
 
 ray-step-requires : tie.Need-ray-step-requires
 ray-step-requires c κs =
-    let p = c .before .before .before .before .before .before .before .before .before .before .pre in (
+    let s = start (c .before .before .before) in
+    let a = s .args in
+    let p = s .pre in (
       p .0,
       p .1,
       p .2,
       p .3,
-      record {
-        x-holds = omega (arith, slice-aggregate-ray-step (c .before .before));
-        d-holds = p .4;
-        lower-holds = omega (arith, slice-aggregate-ray-step-2 (c .before));
-        upper-holds = omega (arith, slice-aggregate-ray-step-3 c);
-      },
+      listed-entries (a .n) (a .iterate .board .state) (p .3) (a .segments) _ _ (p .5) (omega (arith, slice-aggregate-ray-step c)) (p .4),
     )
 
 returns : tie.Need-returns
 unfolding along
 returns c =
-    let f = c .before .before .before .before .before .before .before in
-    let g = f .free-variables .ensures in (
-      λ m. rw (← f .before .before .before .before .pre .3, ← g .x-taken, ← g .upper-taken, ← g .lower-taken) (c .ray-step .ensures .0 m),
+    let x = c .before .before .before in
+    let p = start (x .before) .pre in (
+      λ m. rw (← p .5 .lower-is, ← p .5 .upper-is, ← p .3, ← taken-over _ _ (length-select _ _ _) (x .select .ensures)) (c .ray-step .ensures .0 m),
       c .ray-step .ensures .1,
     )
 
@@ -41,12 +62,11 @@ pub along-spec : {M : Type 1} → statement M
 along-spec =
     tie.close
     (tie.spec
-    (λ c κs. let p = c .before .before .before .pre in (p .0, p .1, p .2, p .3))  -- free-variables-requires
-    (λ c. c .before .before .before .free-variables .ensures .x-holds)  -- array-share-prefix-x-free
+    (λ c. x-holds (c .before .before .before .before .before .before))  -- array-share-prefix-x
+    slice-aggregate-select
+    (λ c. search needs)  -- slice-aggregate-select-2
+    select-requires
+    x-free-holds  -- array-share-prefix-x-free
     slice-aggregate-ray-step
-    (λ c. c .before .before .before .before .free-variables .ensures .lower-holds)  -- array-share-prefix-lower
-    slice-aggregate-ray-step-2
-    (λ c. c .before .before .before .before .before .free-variables .ensures .upper-holds)  -- array-share-prefix-upper
-    slice-aggregate-ray-step-3
     ray-step-requires
     returns)

@@ -1,7 +1,9 @@
 use Rattle.folds.specs.Kit.{_≡_, _≤_, sym, _∙_, arith, length, needs}
 use mathlib.Core.Path.{subst}
+use Rattle.folds.specs.Tab.{taken-over}
 use lib.Seq.{length-take-le}
 use Rattle.sizes.specs.Sizes as Sizes
+use Rattle.vector.specs.Laws.{length-sub}
 use Rattle.segments.specs.Segments.{AllPlaced}
 use Rattle.free_list.specs.Laws.{listed-below}
 use Rattle.blocking.specs.Laws.{blocking-below}
@@ -68,18 +70,18 @@ returns c =
 
 sub-requires : tie.Need-sub-requires
 sub-requires c κs =
-    let s = start (c .before .before .before) in
-    let h = s .pre .5 in (few s, omega (arith, h .x-holds, h .d-holds), omega (arith, h .x-holds, h .d-holds))
+    let s = start (c .before .before .before .before) in
+    let h = s .pre .5 in (omega (arith, h .x-holds, h .d-holds), omega (arith, h .x-holds, h .d-holds), omega (arith, few s))
 
-direction-holds : (c : tie.After-sub) → length (start (c .before .before .before .before) .args .indices .now) ≤ length (c .sub .result)
-direction-holds c = let e : length (c .sub .result) ≡ Sizes.variables = search needs in omega (arith, few (start (c .before .before .before .before)))
+direction-holds : tie.Need-array-share-prefix-direction
+direction-holds c = omega (arith, few (start (c .before .before .before .before .before .before)))
 
 slice-aggregate-blocked : tie.Need-slice-aggregate-blocked
 slice-aggregate-blocked c = sym (length-take-le _ _ (direction-holds (c .before)))
 
 blocked-requires : tie.Need-blocked-requires
 blocked-requires c κs =
-    let h = c .before .before .before in
+    let h = c .before .before .before .before .before in
     let b = h .before .before in
     let s = start b in
     let a = s .args in
@@ -102,10 +104,16 @@ blocked-requires c κs =
 returns-2 : tie.Need-returns-2
 unfolding stepped atBlocking
 returns-2 c =
-    let h = c .before .before .before .before in
+    let d = c .before .before .before in
+    let h = d .before .before .before in
     let b = h .before .before in
     let s = start b in (
-      rw (← b .before .step-tolerance .ensures, ← b .blocking .ensures, h .hit .given .1, ← c .before .before .sub .ensures)
+      rw (
+        ← b .before .step-tolerance .ensures,
+        ← b .blocking .ensures,
+        h .hit .given .1,
+        ← taken-over _ _ (length-sub _ _ _) (d .sub .ensures),
+      )
           (c .blocked .ensures .0 (s .args .m)),
       c .blocked .ensures .1,
     )
@@ -123,6 +131,7 @@ stepped-spec =
     settled-requires
     decided-requires
     returns
+    (λ c. search needs)  -- slice-aggregate-sub
     sub-requires
     direction-holds  -- array-share-prefix-direction
     slice-aggregate-blocked

@@ -1,65 +1,89 @@
 use Rattle.folds.specs.Kit.{_≡_, _≤_, sym, arith, length, needs}
+use native.Mathlib.Nat.{le-refl}
+use Rattle.folds.specs.Tab.{taken-over}
 use lib.Seq.{length-take-le}
 use Rattle.sizes.specs.Sizes as Sizes
+use Rattle.vector.specs.Laws.{length-add, length-select}
+use Rattle.free_list.specs.Laws.{listed-below}
 use Rattle.full_step.specs.FullStep.{toward}
-use Rattle.full_step.specs.Laws.{listed-few}
+use Rattle.full_step.specs.Laws.{listed-few, listed-entries}
 use Rattle.full_step.proofs.toward.Statement.{statement}
 use Rattle.full_step.proofs.toward.Tie as tie
 
-abbrev start : tie.After-free-variables → tie.Start
-start c = c .before .before .before .before .before .before .before .before
+abbrev start : tie.After-x-free → tie.Start
+start c = c .before .before .before .before .before .before .before .before .before .before .before .before
+
+abbrev selected : tie.After-target2 → tie.After-select
+selected c = c .before .before .before .before .before
+
+x-holds : (c : tie.Start) → c .args .n ≤ length (c .args .iterate .board .x)
+x-holds c = let e : length (c .args .iterate .board .x) ≡ Sizes.variables = search needs in omega arith
 
 few : (c : tie.Start) → length (c .args .indices .now) ≤ Sizes.variables
 few c = omega (arith, listed-few (c .args .n) (c .args .iterate .board .state) (c .pre .4), c .pre .0 .variables)
 
+slice-aggregate-select : tie.Need-slice-aggregate-select
+slice-aggregate-select c =
+    sym (length-take-le _ _ (x-holds (c .before .before .before .before .before .before .before .before .before .before .before)))
+
+select-requires : tie.Need-select-requires
+select-requires c κs =
+    let s = start c in (
+      omega (arith, slice-aggregate-select (c .before)),
+      le-refl _,
+      omega (arith, few s),
+      listed-below (s .args .n) (s .args .iterate .board .state) (s .pre .4),
+    )
+
+x-free-holds : tie.Need-array-share-prefix-x-free
+x-free-holds c = omega (arith, few (start (c .before .before)))
+
 slice-aggregate-add : tie.Need-slice-aggregate-add
-slice-aggregate-add c = sym (length-take-le _ _ (c .before .before .before .before .free-variables .ensures .x-holds))
+slice-aggregate-add c = sym (length-take-le _ _ (x-free-holds (c .before)))
 
 add-requires : tie.Need-add-requires
-add-requires c κs = let s = start (c .before .before .before .before) in (few s, omega (arith, slice-aggregate-add c), s .pre .6)
+add-requires c κs =
+    let s = start (c .before .before .before .before) in
+    (omega (arith, slice-aggregate-add (c .before)), s .pre .6, omega (arith, few s))
 
-target-holds : (c : tie.After-add) → length (start (c .before .before .before .before .before) .args .indices .now) ≤ length (c .add .result)
-target-holds c =
-    let e : length (c .add .result) ≡ Sizes.variables = search needs in omega (arith, few (start (c .before .before .before .before .before)))
+target-holds : tie.Need-array-share-prefix-target
+target-holds c = omega (arith, few (start (selected (c .before) .before)))
 
 slice-aggregate-stepped : tie.Need-slice-aggregate-stepped
-slice-aggregate-stepped c = sym (length-take-le _ _ (c .before .before .before .before .before .before .free-variables .ensures .x-holds))
+slice-aggregate-stepped c = sym (length-take-le _ _ (x-free-holds (c .before .before .before .before .before)))
 
 slice-aggregate-stepped-2 : tie.Need-slice-aggregate-stepped-2
-slice-aggregate-stepped-2 c = sym (length-take-le _ _ (target-holds (c .before .before)))
-
-slice-aggregate-stepped-3 : tie.Need-slice-aggregate-stepped-3
-slice-aggregate-stepped-3 c =
-    sym (length-take-le _ _ (c .before .before .before .before .before .before .before .before .free-variables .ensures .lower-holds))
-
-slice-aggregate-stepped-4 : tie.Need-slice-aggregate-stepped-4
-slice-aggregate-stepped-4 c =
-    sym (length-take-le _ _ (c .before .before .before .before .before .before .before .before .before .free-variables .ensures .upper-holds))
+slice-aggregate-stepped-2 c = sym (length-take-le _ _ (target-holds (c .before)))
 
 stepped-requires : tie.Need-stepped-requires
 stepped-requires c κs =
-    let p = start (c .before .before .before .before .before .before .before .before .before) .pre in (
+    let s = start (selected (c .before .before) .before) in
+    let a = s .args in
+    let p = s .pre in (
       p .0,
       p .1,
       p .2,
       p .3,
       p .4,
-      record {
-        x-holds = omega (arith, slice-aggregate-stepped (c .before .before .before));
-        d-holds = omega (arith, slice-aggregate-stepped-2 (c .before .before));
-        lower-holds = omega (arith, slice-aggregate-stepped-3 (c .before));
-        upper-holds = omega (arith, slice-aggregate-stepped-4 c);
-      },
-      omega (arith, p .5, slice-aggregate-stepped-2 (c .before .before)),
+      listed-entries (a .n) (a .iterate .board .state) (p .4) (a .segments) _ _ (p .7) (omega (arith, slice-aggregate-stepped (c .before)))
+          (omega (arith, slice-aggregate-stepped-2 c)),
+      omega (arith, p .5, slice-aggregate-stepped-2 c),
     )
 
 returns : tie.Need-returns
 unfolding toward
 returns c =
-    let t = c .before .before .before .before .before in
-    let f = t .before .before .before .before .before in
-    let g = f .free-variables .ensures in (
-      λ b. rw (← start f .pre .4, ← g .x-taken, ← t .add .ensures, ← g .upper-taken, ← g .lower-taken)
+    let t = c .before .before .before in
+    let x = selected t in
+    let p = start (x .before) .pre in (
+      λ b.
+          rw (
+            ← p .7 .lower-is,
+            ← p .7 .upper-is,
+            ← p .4,
+            ← taken-over _ _ (length-select _ _ _) (x .select .ensures),
+            ← taken-over _ _ (length-add _ _ _) (t .before .add .ensures),
+          )
           (c .stepped .ensures .0),
       c .stepped .ensures .1,
     )
@@ -68,18 +92,17 @@ pub toward-spec : {M : Type 1} → statement M
 toward-spec =
     tie.close
     (tie.spec
-    (λ c κs.
-    let p = c .before .before .before .before .before .before .before .pre in (p .0 .variables, p .1, p .2 .placed, p .4))  -- free-variables-requires
-    (λ c. c .before .before .before .free-variables .ensures .x-holds)  -- array-share-prefix-x-free
+    (λ c. x-holds (c .before .before .before .before .before .before .before .before .before .before))  -- array-share-prefix-x
+    slice-aggregate-select
+    (λ c. search needs)  -- slice-aggregate-select-2
+    select-requires
+    x-free-holds  -- array-share-prefix-x-free
     slice-aggregate-add
+    (λ c. search needs)  -- slice-aggregate-add-2
     add-requires
-    (λ c. c .before .before .before .before .before .free-variables .ensures .x-holds)  -- array-share-prefix-x-free-2
+    (λ c. x-free-holds (c .before .before .before .before))  -- array-share-prefix-x-free-2
     slice-aggregate-stepped
-    (λ c. target-holds (c .before))  -- array-share-prefix-target
+    target-holds  -- array-share-prefix-target
     slice-aggregate-stepped-2
-    (λ c. c .before .before .before .before .before .before .before .free-variables .ensures .lower-holds)  -- array-share-prefix-lower
-    slice-aggregate-stepped-3
-    (λ c. c .before .before .before .before .before .before .before .before .free-variables .ensures .upper-holds)  -- array-share-prefix-upper
-    slice-aggregate-stepped-4
     stepped-requires
     returns)

@@ -1,0 +1,68 @@
+// The kept factor, lent by mutable reference and changed there (document 01); each call is proved equal to the by-value one of `factoring`.
+ghost use mathlib.Core.Path.{_≡_};
+ghost use Prim.Native.Nat.{_≤_, _*_};
+ghost use lib.ListN.{length};
+ghost use Rattle.factor.specs.Factor.{Rising};
+ghost use Rattle.factor.specs.Room.{Block};
+ghost use Rattle.factoring.specs.Kept.{factor};
+ghost use Rattle.factoring.specs.Kept as Kept;
+use factoring::Factoring;
+
+// Drops the factor.
+pub fn reset(f: &mut Factoring)
+    ensures { λ _. ⌜ now (f .exit) ≡ Kept.reset (now (f .entry)) ⌝ }
+{
+    *f = (*f).reset();
+}
+
+pub fn update(
+    f: &mut Factoring,
+    q: &[f64],
+    n: usize,
+    originals: usize,
+    indices: &[usize],
+    l: &mut [f64],
+    room: &mut [f64],
+)
+    requires { ⌜ Block n originals (now q)
+        × Rising originals (now indices)
+        × Kept.Good originals (now f) (now l)
+        × (originals * originals ≤ length (now l))
+        × (originals * n ≤ length (now room)) ⌝ }
+    ensures { λ _. ⌜ factor (now (f .exit)) (now (l .exit))
+        ≡ Kept.update (now (q .entry)) n (now (indices .entry)) (now (f .entry)) (now (l .entry)) ⌝ }
+    ensures { λ _. ⌜ Kept.Good originals (now (f .exit)) (now (l .exit)) ⌝ }
+{
+    *f = (*f).update(q, n, originals, indices, l, room);
+}
+
+// The same for a caller that holds the record by value: these contracts name no reference to it.
+pub fn dropped(f: Factoring) -> Factoring
+    ensures { λ r. ⌜ r ≡ Kept.reset f ⌝ }
+{
+    let mut kept = f;
+    reset(&mut kept);
+    kept
+}
+
+pub fn updated(
+    f: Factoring,
+    q: &[f64],
+    n: usize,
+    originals: usize,
+    indices: &[usize],
+    l: &mut [f64],
+    room: &mut [f64],
+) -> Factoring
+    requires { ⌜ Block n originals (now q)
+        × Rising originals (now indices)
+        × Kept.Good originals f (now l)
+        × (originals * originals ≤ length (now l))
+        × (originals * n ≤ length (now room)) ⌝ }
+    ensures { λ r. ⌜ factor r (now (l .exit)) ≡ Kept.update (now (q .entry)) n (now (indices .entry)) f (now (l .entry)) ⌝ }
+    ensures { λ r. ⌜ Kept.Good originals r (now (l .exit)) ⌝ }
+{
+    let mut next = f;
+    update(&mut next, q, n, originals, indices, l, room);
+    next
+}
