@@ -1,4 +1,4 @@
--- Reading an answer file, and that what is written is read back.
+-- Reading an answer file (File.antt has document 01's words), and that what is written is read back.
 use mathlib.Core.Path.{_≡_, refl, sym, _∙_, ap, ap₂}
 use mathlib.Core.Bool.{Bool, true}
 use mathlib.Core.List.{List, [], _∷_, _++_, append-nil}
@@ -19,13 +19,13 @@ use Rattle.answer.specs.Code.{code-lt}
 use Rattle.answer.specs.Pasted.{length-bytes, in8-wide, length-times, length-prices}
 use Rattle.answer.specs.File.{Answer, bytes, code, in4, in8, each, field, file}
 
--- ---- signedNumbers, low byte first
+-- ---- "Numbers of more than one byte go low byte first"
 unfoldable pub ofBytes : List ℕ → ℕ
 ofBytes [] = 0
 ofBytes (b ∷ bs) = b + 256 * ofBytes bs
 
--- n signed signedNumbers of k bytes each
-unfoldable pub signedNumbers : ℕ → ℕ → ℕ → List ℕ → List ℤ
+-- n signed numbers of k bytes each; `half` is the first number that stands for a negative one
+unfoldable pub signedNumbers : (half k n : ℕ) (s : List ℕ) → List ℤ
 signedNumbers half k zero s = []
 signedNumbers half k (suc n) s = signed half (ofBytes (take k s)) ∷ signedNumbers half k n (drop k s)
 
@@ -42,11 +42,11 @@ bodyOf s = take (lengthOf s) (drop 3 s)
 unfoldable pub rest : List ℕ → List ℕ
 rest s = drop (3 + lengthOf s) s
 
--- a whole field of this tag, whose length passes the test
-unfoldable pub isField : ℕ → (ℕ → Bool) → List ℕ → Bool
+-- a whole field of this tag, whose length passes the test, as one of whole numbers of k bytes does
+unfoldable pub isField : (tag : ℕ) (ok : ℕ → Bool) (s : List ℕ) → Bool
 isField tag ok s = both (eqb (tagOf s) tag) (both (leb (3 + lengthOf s) (length s)) (ok (lengthOf s)))
 
-unfoldable pub wholeOf : ℕ → ℕ → Bool
+unfoldable pub wholeOf : (k n : ℕ) → Bool
 wholeOf k n = eqb (n / k * k) n
 
 -- ---- the file: the four fields in their order, and nothing more
@@ -85,7 +85,7 @@ pub record Sized (a : Answer) : Type 0 where
   pub gap : mag (a .gap) < 9223372036854775808
   pub passes : a .passes < 65536
 
--- k bytes hold every ofBytes below 256 ^ k
+-- k bytes hold every number below 256 ^ k
 top : ℕ → ℕ
 top zero = 1
 top (suc k) = 256 * top k

@@ -14,16 +14,16 @@ pub record Answer : Type 0 where
   pub gap : ℤ
   pub passes : ℕ
 
-abbrev pub answerOf : List ℤ → List ℤ → ℤ → ℕ → Answer
+abbrev pub answerOf : (times prices : List ℤ) (gap : ℤ) (passes : ℕ) → Answer
 answerOf t p g n = record { times = t; prices = p; gap = g; passes = n }
 
 -- "Numbers of more than one byte go low byte first": the k low bytes of n
-unfoldable pub bytes : ℕ → ℕ → List ℕ
+unfoldable pub bytes : (k n : ℕ) → List ℕ
 bytes zero n = []
 bytes (suc k) n = n % 256 ∷ bytes k (n / 256)
 
 -- a signed number in two's complement: `half` is the first number that stands for a negative one
-unfoldable pub code : ℕ → ℤ → ℕ
+unfoldable pub code : (half : ℕ) → ℤ → ℕ
 code half (pos n) = n
 code half (negsuc n) = half + half - suc n
 
@@ -35,12 +35,12 @@ abbrev pub in8 : ℤ → List ℕ
 in8 z = bytes 8 (code 9223372036854775808 z)
 
 -- the numbers of a list, one after the other
-unfoldable pub each : (ℤ → List ℕ) → List ℤ → List ℕ
+unfoldable pub each : (f : ℤ → List ℕ) (numbers : List ℤ) → List ℕ
 each f [] = []
 each f (z ∷ zs) = f z ++ each f zs
 
 -- "Fields: one-byte tag, two-byte length, body."
-unfoldable pub field : ℕ → List ℕ → List ℕ
+unfoldable pub field : (tag : ℕ) (body : List ℕ) → List ℕ
 field tag body = bytes 1 tag ++ (bytes 2 (length body) ++ body)
 
 unfoldable pub file : Answer → List ℕ
@@ -51,10 +51,10 @@ file a =
     ++ field 20 (bytes 2 (a .passes))))
 
 -- ---- writing it to a slice o: "8, answer slice too small"; a refusal leaves the slice as it was
-unfoldable pub refusal : Answer → List ℕ → ℕ
+unfoldable pub refusal : Answer → (slice : List ℕ) → ℕ
 refusal a o = pick (leb (length (file a)) (length o)) 0 8
 
-unfoldable pub written : Answer → List ℕ → List ℕ
+unfoldable pub written : Answer → (slice : List ℕ) → List ℕ
 written a o = pick (leb (length (file a)) (length o)) (over (file a) o) o
 
 -- what a call promises of its result r and of the slice, o at entry
@@ -63,5 +63,5 @@ pub record Written (a : Answer) (o : List ℕ) (r : ℕ) (exit : List ℕ) : Typ
   pub slice : exit ≡ written a o
 
 -- the file's length, from its counts
-unfoldable pub fileSize : ℕ → ℕ → ℕ
+unfoldable pub fileSize : (times prices : ℕ) → ℕ
 fileSize times prices = 22 + 4 * times + 8 * prices

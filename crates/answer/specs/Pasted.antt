@@ -13,7 +13,7 @@ use Rattle.folds.specs.Fold.{over, fold, fold-turn, pick-true, pick-false}
 use Rattle.answer.specs.File.{Answer, bytes, each, in4, in8, field, file, fileSize, code, refusal, written, Written}
 
 -- o with s written over it from `at` on
-unfoldable pub pasted : ℕ → List ℕ → List ℕ → List ℕ
+unfoldable pub pasted : (at : ℕ) (bytes slice : List ℕ) → List ℕ
 pasted at s o = paste o at s (length s)
 
 pub pasted-is : (at : ℕ) (s o : List ℕ) → paste o at s (length s) ≡ pasted at s o
@@ -55,7 +55,7 @@ unfolding pasted over
 pasted-front s o = let z : 0 + length s ≡ length s = omega arith in rw (take-length s, z)
 
 -- ---- the bytes of n: after j of them n is divided by 256 j times
-unfoldable pub shifted : ℕ → ℕ → ℕ
+unfoldable pub shifted : (j n : ℕ) → ℕ
 shifted j n = fold j (λ i m. m / 256) n
 
 shifted-next : (j n : ℕ) → shifted (suc j) n ≡ shifted j (n / 256)

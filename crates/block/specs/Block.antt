@@ -42,17 +42,17 @@ pub record Block : Type 0 where
   pub cap : ℕ
 
 -- ---- the fields by their numbers, from 0
-abbrev pub word : Block → ℕ → Word
+abbrev pub word : Block → (i : ℕ) → Word
 word b i = getD (b .words) i (record { lower = 0; upper = 0; key = 0; start = 0; slope = 0 })
 
-abbrev pub tempo : Block → ℕ → Tempo
+abbrev pub tempo : Block → (j : ℕ) → Tempo
 tempo b j = getD (b .tempos) j (record { weight = 0; target = pos 0; list = [] })
 
-abbrev pub anchor : Block → ℕ → Anchor
+abbrev pub anchor : Block → (k : ℕ) → Anchor
 anchor b k = getD (b .anchors) k (record { value = pos 0; list = [] })
 
-abbrev pub span : Block → ℕ → Span
+abbrev pub span : Block → (k : ℕ) → Span
 span b k = getD (b .spans) k (record { lower = pos 0; upper = pos 0; list = [] })
 
-abbrev pub item : List Item → ℕ → Item
+abbrev pub item : (list : List Item) (k : ℕ) → Item
 item l k = getD l k (record { word = 0; coef = pos 0 })

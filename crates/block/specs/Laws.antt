@@ -13,8 +13,10 @@ use Rattle.ints.specs.Diff.{diff, split, maxℤ}
 use Rattle.ints.specs.Sum.{Σ}
 use Rattle.block.specs.Block.{Block, Word, Item, Tempo, Anchor, Span, word, tempo, anchor, span}
 use Rattle.block.specs.Plan.{time, abs, square, product, sumOf, move, moves, bend, off, squareOf, squares, bends, cost}
-use Rattle.block.specs.Keeps.{anchorMiss, outside, spanMiss, windowKept, coefSize, coefSizes, missBounded, movesBounded, windowsKept, anchorsBounded, spansBounded, bounded, bounded-true}
-use Rattle.block.specs.Gap.{Prices, price, coefAt, coefOf, slopeOf, g, anchorPart, spanPart, h, line, candidates, least, wordGap, wordGapOf, wordGaps, values, ends, gap}
+use Rattle.block.specs.Keeps.{anchorMiss, outside, spanMiss, windowKept, coefSize, coefSizes, missBounded, movesBounded, windowsKept}
+use Rattle.block.specs.Keeps.{anchorsBounded, spansBounded, bounded, bounded-true}
+use Rattle.block.specs.Gap.{Prices, price, coefAt, coefOf, slopeOf, g, anchorPart, spanPart, h, line, candidates, least, wordGap, wordGapOf}
+use Rattle.block.specs.Gap.{wordGaps, values, ends, gap}
 use Rattle.block.specs.Ranges.{maxTime, Ranged}
 
 -- ---- a list, a word, a tempo term

@@ -19,7 +19,7 @@ use Rattle.block_qp.specs.Qp.{plusAt}
 use Rattle.block_qp.specs.Entries.{Σ-none, set-tab}
 
 -- n whole numbers
-abbrev pub wholes : ℕ → (ℕ → ℤ) → List Float
+abbrev pub wholes : (n : ℕ) (s : ℕ → ℤ) → List Float
 wholes n s = tab n (λ i. fromℤ (s i))
 
 pub record Adds (n a : ℕ) (f : List Float → List Float) (d : ℕ → ℤ) : Type 0 where

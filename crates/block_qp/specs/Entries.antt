@@ -45,11 +45,11 @@ zeros n = sym (tab-all nan n (filled n f0) (length-filled n f0)) ∙ tab-same n 
     from-zero : f0 ≡ fromℤ (pos 0)
     from-zero = unfold ofInt ofBits in refl
 
--- (belongs in ints)
+-- the sum of nothing
 pub Σ-none : (f : ℕ → ℤ) → Σ 0 f ≡ pos 0
 Σ-none f = Σ-ext 0 f (λ _. pos 0) (λ i h. absurd (not-suc-le-zero h)) ∙ Σ-zero 0
 
--- a store at w (belongs in folds)
+-- a store at w
 pub set-tab : {A : Type 0} (n w : ℕ) (g h : ℕ → A) (v : A) → w < n → v ≡ h w → ((i : ℕ) → i < n → (i ≡ w → ⊥) → g i ≡ h i) →
     set (tab n g) w v ≡ tab n h
 set-tab n w g h v b e f =

@@ -73,7 +73,8 @@ module _ {n : ℕ} {t : Tempo} (R : RangedTempo n t) where
 
   weighted-stands : (k : ℕ) → k < length l → Stands (fmul (fromℕ (t .weight)) (fromℤ (item l k .coef))) (weight *ℤ item l k .coef)
   weighted-stands k h =
-      stands-times (stands-from weight (within (pos-b (R .weight)) tt)) (stands-from (item l k .coef) (within (coef-b short k h) tt)) (within (weighted k h) tt)
+      stands-times (stands-from weight (within (pos-b (R .weight)) tt)) (stands-from (item l k .coef) (within (coef-b short k h) tt))
+      (within (weighted k h) tt)
 
   adds-row : (k : ℕ) → k < length l →
       Adds (n * n) 16384 (addRow n l (item l k .word) (fmul (fromℕ (t .weight)) (fromℤ (item l k .coef)))) (λ e. Σ (length l) (product n t e k))
@@ -84,7 +85,8 @@ module _ {n : ℕ} {t : Tempo} (R : RangedTempo n t) where
       (λ m g.
       adds-one (n * n) _ _ (weight *ℤ item l k .coef *ℤ item l m .coef) 4096
       (cell-lt _ _ n n (n * n) (le-refl _) (R .list .named k h) (R .list .named m g))
-      (stands-times (weighted-stands k h) (stands-from (item l m .coef) (within (coef-b short m g) tt)) (within (weighted k h *b coef-b short m g) tt))
+      (stands-times (weighted-stands k h) (stands-from (item l m .coef) (within (coef-b short m g) tt))
+      (within (weighted k h *b coef-b short m g) tt))
       (weighted k h *b coef-b short m g)))
 
   adds-products : Adds (n * n) 65536 (addProducts n t) (λ e. Σ (length l) (λ k. Σ (length l) (product n t e k)))
@@ -138,10 +140,10 @@ delta-product a i w x = go (eqb a i)
     go false = sym (*ℤ-zero w)
 
 -- "weight × coefficient products": a tempo's at row i, column j, and "weight × target × coefficient" at i
-unfoldable pub productAt : Tempo → ℕ → ℕ → ℤ
+unfoldable pub productAt : Tempo → (i j : ℕ) → ℤ
 productAt t i j = pos (t .weight) *ℤ coefOf i (t .list) *ℤ coefOf j (t .list)
 
-unfoldable pub targetAt : Tempo → ℕ → ℤ
+unfoldable pub targetAt : Tempo → (i : ℕ) → ℤ
 targetAt t i = pos (t .weight) *ℤ t .target *ℤ coefOf i (t .list)
 
 module _ {n : ℕ} {t : Tempo} (R : RangedTempo n t) (i : ℕ) where
@@ -172,7 +174,8 @@ module _ {n : ℕ} {t : Tempo} (R : RangedTempo n t) (i : ℕ) where
 
 -- ---- the lists
 -- from zeros
-summed : (n a : ℕ) (f : List Float → List Float) (d : ℕ → ℤ) → Adds n a f d → a ≤ 1099511627776 → (i : ℕ) → i < n → Whole (at (f (filled n f0)) i) (d i)
+summed : (n a : ℕ) (f : List Float → List Float) (d : ℕ → ℤ) → Adds n a f d → a ≤ 1099511627776 → (i : ℕ) → i < n
+    → Whole (at (f (filled n f0)) i) (d i)
 summed n a f d p h i l =
     record {
       is =
@@ -199,7 +202,8 @@ whole-span : (number : Span → ℤ) (b : Block) (k : ℕ) → k < length (b .sp
 unfolding eachSpan
 whole-span number b k l h = listed (length (b .spans)) (λ k. number (span b k)) k l h tt
 
-whole-column : (n m : ℕ) (list : ℕ → List Item) (i k : ℕ) → i < n → k < m → Short (list k) → Whole (at (columns n m list) (i + k * n)) (coefOf i (list k))
+whole-column : (n m : ℕ) (list : ℕ → List Item) (i k : ℕ) → i < n → k < m → Short (list k)
+    → Whole (at (columns n m list) (i + k * n)) (coefOf i (list k))
 unfolding columns
 whole-column n m list i k l h s = record { is = getD-tabM nan n m i k _ l h; small = loose (lit≤ tt) (coefOf-b s i) }
 
@@ -268,7 +272,7 @@ module _ {b : Block} (R : Ranged b) where
   whole-cap = record { is = refl; small = loose (lit≤ tt) (pos-b (R .cap)) }
 
 -- ---- so no bound is a NaN
--- (`all-numbers` belongs in vector)
+-- whole numbers are no NaNs
 all-numbers : (m : ℕ) (a : List Float) (z : ℕ → ℤ) → ((i : ℕ) → i < m → Whole (at a i) (z i)) → anyNan m a ≡ false
 unfolding anyNan
 all-numbers m a z h = some-no m _ (λ i l. whole-number (h i l))

@@ -13,16 +13,16 @@ use Rattle.block.specs.Block.{Block, Item, Span, Tempo, Word, word, tempo, anch
 use Rattle.block.specs.Gap.{coefOf}
 
 -- entry k of a list grows by v: `a[k] += v`
-unfoldable pub plusAt : List Float → ℕ → Float → List Float
+unfoldable pub plusAt : (a : List Float) (k : ℕ) (v : Float) → List Float
 plusAt a k v = set a k (fadd (at a k) v)
 
 -- ---- "Q adds weight × coefficient products"
 -- `q[i + j * n] += weight * coefficient * other`, for each other pair of the list: w is weight × coefficient, i the coefficient's word
-unfoldable pub addRow : ℕ → List Item → ℕ → Float → List Float → List Float
+unfoldable pub addRow : (n : ℕ) (list : List Item) (i : ℕ) (w : Float) (q : List Float) → List Float
 addRow n l i w q = fold (length l) (λ k q. plusAt q (i + item l k .word * n) (fmul w (fromℤ (item l k .coef)))) q
 
 -- a tempo's products
-unfoldable pub addProducts : ℕ → Tempo → List Float → List Float
+unfoldable pub addProducts : (n : ℕ) → Tempo → (q : List Float) → List Float
 addProducts n t q =
     fold (length (t .list))
     (λ k q. addRow n (t .list) (item (t .list) k .word) (fmul (fromℕ (t .weight)) (fromℤ (item (t .list) k .coef))) q) q
@@ -33,7 +33,7 @@ hessian b =
 
 -- ---- "c adds weight × target × coefficient"
 -- `c[i] += weight * target * coefficient`, for each pair of a tempo
-unfoldable pub addTargets : Tempo → List Float → List Float
+unfoldable pub addTargets : Tempo → (c : List Float) → List Float
 addTargets t c =
     fold (length (t .list))
     (λ k c. plusAt c (item (t .list) k .word) (fmul (fmul (fromℕ (t .weight)) (fromℤ (t .target))) (fromℤ (item (t .list) k .coef)))) c
@@ -42,7 +42,7 @@ unfoldable pub linear : Block → List Float
 linear b = fold (length (b .tempos)) (λ j c. addTargets (tempo b j) c) (filled (length (b .words)) f0)
 
 -- ---- the numbers of the words, one list for each: "key and slope are the kink", the window is the variable's, the engine begins at start
-unfoldable pub eachWord : (Word → ℕ) → Block → List Float
+unfoldable pub eachWord : (number : Word → ℕ) → Block → List Float
 eachWord number b = tab (length (b .words)) (λ i. fromℕ (number (word b i)))
 
 unfoldable pub keys : Block → List Float
@@ -61,11 +61,11 @@ unfoldable pub starts : Block → List Float
 starts b = eachWord (λ w. w .start) b
 
 -- ---- "an anchor where its list's sum is its value, a span where the sum is from lower to upper": the coefficients of a list as a column of n
-unfoldable pub column : ℕ → List Item → List Float
+unfoldable pub column : (n : ℕ) (list : List Item) → List Float
 column n l = tab n (λ i. fromℤ (coefOf i l))
 
 -- one for each of m lists
-unfoldable pub columns : ℕ → ℕ → (ℕ → List Item) → List Float
+unfoldable pub columns : (n m : ℕ) (list : ℕ → List Item) → List Float
 columns n m list = tabM n m (λ i k. fromℤ (coefOf i (list k)))
 
 unfoldable pub anchorColumns : Block → List Float
@@ -77,7 +77,7 @@ anchorValues b = tab (length (b .anchors)) (λ k. fromℤ (anchor b k .value))
 unfoldable pub spanColumns : Block → List Float
 spanColumns b = columns (length (b .words)) (length (b .spans)) (λ k. span b k .list)
 
-unfoldable pub eachSpan : (Span → ℤ) → Block → List Float
+unfoldable pub eachSpan : (number : Span → ℤ) → Block → List Float
 eachSpan number b = tab (length (b .spans)) (λ k. fromℤ (number (span b k)))
 
 unfoldable pub spanLowers : Block → List Float

@@ -38,7 +38,7 @@ solved-sized b x multipliers passes raise e =
     let z = optimal-sized _ _ _ _ e in record { x-long = z .0; multipliers-long = z .1; passes-few = z .3 }
 
 -- ---- a block in document 01's ranges is neither 9 nor 10, nor is it ever 13: the answer is the engine's
--- (`sized-yes`, `long-yes` and `blank-no` belong in piecewise)
+-- the tests of its sizes, and of its bounds for a NaN, pass
 sized-yes : {n m r q c e b a : ℕ} → Size n m r q c e b a → sized n m r q c e b a ≡ true
 unfolding sized
 sized-yes s =
@@ -87,7 +87,8 @@ module _ (b : Block) where
         b-long = length-anchorValues b;
         a-long = length-spanColumns b;
       }))
-      (long-yes (length (b .anchors)) (length-lowers b) (length-uppers b) (length-spanLowers b) (length-spanUppers b) (length-keys b) (length-slopes b)
+      (long-yes (length (b .anchors)) (length-lowers b) (length-uppers b) (length-spanLowers b) (length-spanUppers b) (length-keys b)
+      (length-slopes b)
       (length-starts b) refl refl)
 
   block-numbers : Ranged b → blank (length (b .words)) (length (b .spans)) (lowers b) (uppers b) (spanLowers b) (spanUppers b) ≡ false

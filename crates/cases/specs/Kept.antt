@@ -13,10 +13,10 @@ use Rattle.block.specs.Plan.{sumOf, moves}
 use Rattle.block.specs.Keeps.{Keeps, windowsKept}
 use Rattle.block.specs.Laws.{windowKept-is, windowsKept-is}
 
-unfoldable pub fromTo : ℤ → ℤ → ℤ → Bool
+unfoldable pub fromTo : (lower upper z : ℤ) → Bool
 fromTo lower upper z = both (leZ lower z) (leZ z upper)
 
-unfoldable pub keeps : Block → List ℤ → Bool
+unfoldable pub keeps : Block → (times : List ℤ) → Bool
 keeps b x =
     both (windowsKept b x)
     (both (all (length (b .anchors)) (λ k. fromTo (anchor b k .value) (anchor b k .value) (sumOf (anchor b k .list) x)))

@@ -74,7 +74,8 @@ module _ (b : List ℕ) (p : ℕ) where
   unfolding pairVerdict
   pairVerdict-by words i e = e
 
-  pub listVerdict-by : {v : Verdict} (words n : ℕ) → v ≡ need (eqb (byteAt b p) n) BadList (firstOf n (pairVerdict b p words)) → v ≡ listVerdict b p words n
+  pub listVerdict-by : {v : Verdict} (words n : ℕ) → v ≡ need (eqb (byteAt b p) n) BadList (firstOf n (pairVerdict b p words))
+      → v ≡ listVerdict b p words n
   unfolding listVerdict
   listVerdict-by words n e = e
 
@@ -183,6 +184,7 @@ pub withBody-by : {q : Block} (t : ℕ) (b : List ℕ) (n : ℕ) (k : Block)
 unfolding withBody
 withBody-by t b n k e = e
 
-pub endVerdict-by : {v : Verdict} (last words : ℕ) → v ≡ need (leb 1 words) OutOfOrder (need (eqb last capTag) OutOfOrder Accepted) → v ≡ endVerdict last words
+pub endVerdict-by : {v : Verdict} (last words : ℕ) → v ≡ need (leb 1 words) OutOfOrder (need (eqb last capTag) OutOfOrder Accepted)
+    → v ≡ endVerdict last words
 unfolding endVerdict
 endVerdict-by last words e = e

@@ -148,7 +148,12 @@ module _ (b : List ℕ) (words n : ℕ) (f : 1 ≤ n) (l : n ≤ maxPairs) where
       let p = need-held (oneTo maxWeight (u16At b 0)) OutOfRange _ refl e in
       let q = need-held (sizeUpTo maxSum (i32At b 2)) OutOfRange _ refl (p .1) in
       let w = both-true _ _ (p .0) in
-      record { some-weight = leb-true _ _ (w .0); weight = leb-true _ _ (w .1); target = size-up-to maxSum _ (q .0); list = list-ranged b 6 words n f l (q .1) }
+      record {
+        some-weight = leb-true _ _ (w .0);
+        weight = leb-true _ _ (w .1);
+        target = size-up-to maxSum _ (q .0);
+        list = list-ranged b 6 words n f l (q .1);
+      }
 
   anchor-ranged : accepted (anchorVerdict b words n) ≡ true → RangedAnchor words (anchorFrom b n)
   unfolding anchorVerdict accepted
@@ -251,7 +256,8 @@ module _ (k : Block) (r : RangedFrom 0 k) where
           (pick q (ltb (length (k .tempos)) maxTempos)
           (pick s (ltb (length (k .anchors)) maxAnchors)
           (pick u (ltb (length (k .spans)) maxSpans) true))) ≡ true
-          → accepted (pick p (wordVerdict b) (pick q (tempoVerdict b n m) (pick s (anchorVerdict b n m) (pick u (spanVerdict b n m) (capVerdict b))))) ≡ true
+          → accepted (pick p (wordVerdict b) (pick q (tempoVerdict b n m) (pick s (anchorVerdict b n m) (pick u (spanVerdict b n m) (capVerdict b)))))
+          ≡ true
           → RangedFrom 0
           (pick p (withWord (wordFrom b) k)
           (pick q (withTempo (tempoFrom b m) k)
@@ -318,7 +324,8 @@ fields-ranged (suc most) s last b k r e =
     rest = fields most (drop (3 + len s) s) (tag s) (withField s b)
 
     go : (t u : Bool) → (RangedFrom 0 (withField s b) → rest ≡ block k → Ranged k) → accepted (fieldVerdict s last (counts b)) ≡ u
-        → pick t (outcome (endVerdict last (length (b .words))) b) (pick u rest (refused (number (fieldVerdict s last (counts b))))) ≡ block k → Ranged k
+        → pick t (outcome (endVerdict last (length (b .words))) b) (pick u rest (refused (number (fieldVerdict s last (counts b))))) ≡ block k
+        → Ranged k
     go true u later f p = end-ranged last b k r p
     go false true later f p = later (field-ranged s last b r f) p
     go false false later f p = absurd (let z : _≡_ {A = ℕ} 0 1 = cc in omega arith)

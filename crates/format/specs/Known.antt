@@ -80,7 +80,7 @@ cases =
     -- 2: "not 1 to 5"
     ∷ (6 ∷ 0 ∷ 0 ∷ [], refused 2)
     ∷ (0 ∷ 0 ∷ 0 ∷ [], refused 2)
-    -- 3: "a falling tag, a second knownCap, no word, no cap"
+    -- 3: "a falling tag, a second cap, no word, no cap"
     ∷ (knownWord ++ knownTempo ++ knownWord, refused 3)
     ∷ (knownWord ++ knownCap ++ knownCap, refused 3)
     ∷ (knownCap, refused 3)

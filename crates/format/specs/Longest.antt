@@ -61,7 +61,13 @@ field-left : (last t n : ℕ) (q : List ℕ) (c : ℕ) (b : Block) → oneTo cap
 unfolding left capLeft hasRoom counts count withBody pick both
 field-left last zero n q c b p o r k = absurd (false-true p)
 field-left last (suc zero) n q c b p o r k =
-    omega (arith, before-cap last 1 o, ltb-true (length (b .words)) 32 r, eqb-true n 20 (one-is (eqb n 20) k), length-append (b .words) (wordFrom q ∷ []))
+    omega (
+      arith,
+      before-cap last 1 o,
+      ltb-true (length (b .words)) 32 r,
+      eqb-true n 20 (one-is (eqb n 20) k),
+      length-append (b .words) (wordFrom q ∷ []),
+    )
 field-left last (suc (suc zero)) n q c b p o r k =
     omega (arith, before-cap last 2 o, ltb-true (length (b .tempos)) 64 r, pairs-long 7 n k, length-append (b .tempos) (tempoFrom q c ∷ []))
 field-left last (suc (suc (suc zero))) n q c b p o r k =
@@ -125,7 +131,8 @@ module _ (m : ℕ) (r : List ℕ) (last : ℕ) (b : Block) (h : left last b + 3 
       go true e = ap (λ (l : List ℕ). judged last (counts b) (tag r) (len r) (length l)) (take-all m r (leb-true _ _ e))
       go false e =
           let g = leb-false (length r) m e in
-          ap (judged last (counts b) (tag r) (len r)) (length-take-le m r (omega arith)) ∙ judged-same last b (tag r) (len r) m (length r) h (omega arith)
+          ap (judged last (counts b) (tag r) (len r)) (length-take-le m r (omega arith))
+          ∙ judged-same last b (tag r) (len r) m (length r) h (omega arith)
 
   module _ (e : accepted (headVerdict r last (counts b)) ≡ true) where
     within : 3 + len r + left (tag r) (withField r b) ≤ left last b
@@ -205,7 +212,8 @@ further-same most few s m last b p q h same =
         (omega (arith, ap length d, length-drop (3 + len (take m s)) (take m s)))
         (omega arith)
         ∙ sym (ap (λ (l : List ℕ). fields few l (tag (take m s)) (withField (take m s) b)) d
-        ∙ ap₂ (λ (t : ℕ) (k : Block). fields few (take (m - (3 + len s)) (drop (3 + len s) s)) t k) (tag-same m s last b h) (field-same m s last b h e))
+        ∙ ap₂ (λ (t : ℕ) (k : Block). fields few (take (m - (3 + len s)) (drop (3 + len s) s)) t k) (tag-same m s last b h)
+        (field-same m s last b h e))
 
 none-same : (most few m last : ℕ) (b : Block) → fields most [] last b ≡ fields few (take m []) last b
 none-same most few m last b = ended most last b ∙ sym (ap (λ (l : List ℕ). fields few l last b) (take-nil m) ∙ ended few last b)

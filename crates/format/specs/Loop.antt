@@ -67,7 +67,7 @@ pub record ReadTo (s : List ℕ) (at last : ℕ) (k : Struct.Block) : Type 0 whe
   pub left : Left s (drop at s) last (blockOf k)
 
 -- what is left of s, as the slice from `at` on
-abbrev pub rest : List ℕ → ℕ → List ℕ
+abbrev pub rest : (s : List ℕ) (at : ℕ) → List ℕ
 rest s at = take (length s - at) (drop at s)
 
 -- the field that begins at `at` is accepted: it is whole, and with it the file is read to its end
@@ -102,7 +102,8 @@ module _ (s : List ℕ) (at last : ℕ) (k : Struct.Block) (p : ReadTo s at last
     pub read-stop : accepted v ≡ false → outcome v (blockOf k) ≡ read s
     read-stop h =
         let f = e ∙ verdict-is in
-        refusal-is v (blockOf k) h ∙ ap (λ u. refused (number u)) f ∙ left-stop s (drop at s) last (blockOf k) some-left (ap accepted (sym f) ∙ h) (p .left)
+        refusal-is v (blockOf k) h ∙ ap (λ u. refused (number u)) f
+        ∙ left-stop s (drop at s) last (blockOf k) some-left (ap accepted (sym f) ∙ h) (p .left)
 
     pub read-field : accepted v ≡ true → FieldRead s at k
     unfolding fieldVerdict

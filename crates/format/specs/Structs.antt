@@ -61,19 +61,19 @@ pub record Filled (l : Pairs) : Type 0 where
 abbrev pub noPairs : Pairs
 noPairs = record { count = 0; pair = [] }
 
-abbrev pub pairAt : Pairs → ℕ → Pair
+abbrev pub pairAt : Pairs → (k : ℕ) → Pair
 pairAt l k = getD (l .pair) k (record { word = 0; coef = pos 0 })
 
-abbrev pub wordAt : Block → ℕ → Word
+abbrev pub wordAt : Block → (i : ℕ) → Word
 wordAt b i = getD (b .word) i (record { lower = 0; upper = 0; key = 0; start = 0; slope = 0 })
 
-abbrev pub tempoAt : Block → ℕ → Tempo
+abbrev pub tempoAt : Block → (j : ℕ) → Tempo
 tempoAt b j = getD (b .tempo) j (record { weight = 0; target = pos 0; list = noPairs })
 
-abbrev pub anchorAt : Block → ℕ → Anchor
+abbrev pub anchorAt : Block → (k : ℕ) → Anchor
 anchorAt b k = getD (b .anchor) k (record { value = pos 0; list = noPairs })
 
-abbrev pub spanAt : Block → ℕ → Span
+abbrev pub spanAt : Block → (k : ℕ) → Span
 spanAt b k = getD (b .span) k (record { lower = pos 0; upper = pos 0; list = noPairs })
 
 pub record Sound (b : Block) : Type 0 where

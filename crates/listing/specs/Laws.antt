@@ -74,7 +74,8 @@ module _ {at n : ℕ} {o : List ℕ} (R : Room at (decimal n) o) where
       room-last = let r = room-next (decimal (n / 10)) (digit (n % 10) ∷ []) room-large A in omega (arith, r .fits)
 
       pub last-digit : Appended at (decimal n) o (m + 1) (set k m (digit (n % 10)))
-      last-digit = rw (decimal-large n h) (appended-two (decimal (n / 10)) (digit (n % 10) ∷ []) room-large A (one-byte k m (digit (n % 10)) room-last))
+      last-digit = rw (decimal-large n h) (appended-two (decimal (n / 10)) (digit (n % 10) ∷ []) room-large A
+          (one-byte k m (digit (n % 10)) room-last))
 
 -- a number of at most k + 1 digits
 pub decimal-short : (k n : ℕ) → n < 10 ^ suc k → length (decimal n) ≤ suc k
@@ -88,7 +89,7 @@ decimal-short (suc k) n h = go (ltb n 10) refl (decimal-short k (n / 10))
         omega (arith, ap length (decimal-large n (ltb-false n 10 e)), length-append (decimal (n / 10)) (digit (n % 10) ∷ []))
 
 -- ---- what is written is read back: the number of decimal digits, after n
-unfoldable pub numberOf : ℕ → List ℕ → ℕ
+unfoldable pub numberOf : (n : ℕ) (digits : List ℕ) → ℕ
 numberOf n [] = n
 numberOf n (d ∷ s) = numberOf (10 * n + (d - 48)) s
 

@@ -15,7 +15,7 @@ abbrev pub digit : ℕ → ℕ
 digit d = 48 + d
 
 -- the digits of n, of which there are at most k
-unfoldable pub digits : ℕ → ℕ → List ℕ
+unfoldable pub digits : (k n : ℕ) → List ℕ
 digits zero n = []
 digits (suc k) n = pick (ltb n 10) (digit n ∷ []) (digits k (n / 10) ++ (digit (n % 10) ∷ []))
 
@@ -62,16 +62,16 @@ joined [] = []
 joined (s ∷ ss) = s ++ joined ss
 
 -- "word number, key time, written time"
-unfoldable pub wordLine : ℕ → ℕ → ℤ → List ℕ
+unfoldable pub wordLine : (i key : ℕ) (time : ℤ) → List ℕ
 wordLine i key t = joined (decimal i ∷ space ∷ decimal key ∷ space ∷ integer t ∷ newline ∷ [])
 
 -- of the first n words
-unfoldable pub wordLines : ℕ → Block → List ℤ → List ℕ
+unfoldable pub wordLines : (n : ℕ) → Block → (times : List ℤ) → List ℕ
 wordLines zero b x = []
 wordLines (suc n) b x = wordLines n b x ++ wordLine n (word b n .key) (time x n)
 
 -- "exact moves and cap"
-unfoldable pub movesLine : ℤ → ℕ → List ℕ
+unfoldable pub movesLine : (moves : ℤ) (cap : ℕ) → List ℕ
 movesLine m cap = joined (movesWord ∷ integer m ∷ capWord ∷ decimal cap ∷ newline ∷ [])
 
 -- "gap"
@@ -79,11 +79,11 @@ unfoldable pub gapLine : ℤ → List ℕ
 gapLine g = joined (gapWord ∷ integer g ∷ newline ∷ [])
 
 -- a word and a number
-unfoldable pub countLine : List ℕ → ℕ → List ℕ
+unfoldable pub countLine : (name : List ℕ) (n : ℕ) → List ℕ
 countLine name n = joined (name ∷ decimal n ∷ newline ∷ [])
 
 -- ---- the listing of a plan with its gap and passes, and of a refusal
-unfoldable pub plan : Block → List ℤ → ℤ → ℕ → List ℕ
+unfoldable pub plan : Block → (times : List ℤ) (gap : ℤ) (passes : ℕ) → List ℕ
 plan b x gap passes =
     joined
     (heading

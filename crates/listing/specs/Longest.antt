@@ -78,7 +78,8 @@ module _ {b : Block} (R : Ranged b) {x : List ℤ} (X : Timed (length (b .words)
   unfolding wordLines
   words-are zero h = zero-le
   words-are (suc n) h =
-      let w = wordLine-is n (word b n .key) (time x n) (omega (arith, R .words)) (omega (arith, R .each-word n h .key)) (omega (arith, X .small n h)) in
+      let w = wordLine-is n (word b n .key) (time x n) (omega (arith, R .words)) (omega (arith, R .each-word n h .key))
+      (omega (arith, X .small n h)) in
       omega (arith, words-are n (omega arith), length-append (wordLines n b x) (wordLine n (word b n .key) (time x n)), w .most)
 
   -- a gap in signed 64 bits, and passes in 64

@@ -28,7 +28,8 @@ use Rattle.format.specs.Structs.{blockOf, Sound}
 use Rattle.format.specs.Entries.{words-length, anchors-length, spans-length}
 use Rattle.gap.specs.Prices.{priceCount, pricesFrom}
 use Rattle.gap.specs.Input.{PlanAndPrices, list-priced, list-timed}
-use Rattle.plan_check.specs.Check.{gapIs, refused, between, timesIn, pricesIn, capIn, fits64, countRefusal, timeRefusal, priceRefusal, earlier, refusalFor, refusalOf, checkBlock, checkRead, check, resultOf, gapAfter}
+use Rattle.plan_check.specs.Check.{gapIs, refused, between, timesIn, pricesIn, capIn, fits64, countRefusal, timeRefusal, priceRefusal, earlier}
+use Rattle.plan_check.specs.Check.{refusalFor, refusalOf, checkBlock, checkRead, check, resultOf, gapAfter}
 use Rattle.plan_check.specs.Promise.{CostBound, Answered}
 
 -- ---- ranges

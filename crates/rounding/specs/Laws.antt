@@ -1,5 +1,5 @@
--- Laws of written times and prices. A time is a whole number at most half a sample away (`time-near`), a whole number is its own (`time-own`), the
--- order stays (`time-order`), and so does a whole window (`time-within`); what is outside the range is in no window (`time-off`). A price is in its range.
+-- Laws of written times and prices. A time is a whole number at most half a sample away (`time-near`), a whole number is its own (`time-own`),
+-- the order stays (`time-order`), and so does a whole window (`time-within`); what is out of range is in no window (`time-off`). A price is in range.
 use mathlib.Core.Path.{_≡_, refl, sym, ap, ap₂, _∙_, subst}
 use mathlib.Core.Logic.{_⊎_, inl, inr, ⊎-elim}
 use mathlib.Core.Bool.{Bool, true, false, cond, true≢false}
@@ -14,7 +14,8 @@ use lib.IntN.{ℤ, pos, negsuc, negℤ, natAbs, _*ℤ_}
 use lib.Signed.{_≤ℤ_, _<ℤ_, ltZ, leZ}
 use lib.Ieee.{Float, binary64, fits, lt, le, ofBits, ofInt}
 use lib.Ieee.Bits.{is-true}
-use Rattle.folds.specs.Fold.{pick, pick-true, pick-false, pick-keep, both, both-yes, both-first, both-second, both-true, fold, all, all-stop, all-end, all-at, tab}
+use Rattle.folds.specs.Fold.{pick, pick-true, pick-false, pick-keep, both, both-yes, both-first, both-second, both-true, fold, all, all-stop, all-end}
+use Rattle.folds.specs.Fold.{all-at, tab}
 use Rattle.folds.specs.Tab.{length-tab, getD-tab, over-tab, taken-tab}
 use Rattle.ints.specs.Diff.{diff, split, minℤ, maxℤ, ltZ-true, ltZ-false, leZ-true}
 use Rattle.ints.specs.Bound.{_≼_}
@@ -271,7 +272,8 @@ module _ (x : List Float) where
   unfolding allInRange
   times-off i h e = record { all-on = all-stop i _ _ h e; are = λ q. absurd (true≢false (sym q)) }
 
-  pub times-on : (i : ℕ) {l : List ℤ} (o : List ℤ) → i ≤ length x → length x ≤ i → length x ≤ length o → l ≡ fold i (λ i l. set l i (timeOf (at x i))) o
+  pub times-on : (i : ℕ) {l : List ℤ} (o : List ℤ) → i ≤ length x → length x ≤ i → length x ≤ length o
+      → l ≡ fold i (λ i l. set l i (timeOf (at x i))) o
       → true ≡ all i (λ i. inRange (at x i)) → TimesOf x (record { on = true; times = l })
   unfolding allInRange timesOf
   times-on i o p q r e a = record { all-on = all-end i _ _ p q a; are = λ _. taken-tab _ _ o (over-tab i _ _ o p q r e) }
@@ -313,7 +315,8 @@ module _ (multipliers : List Float) (raise : Float) where
 
   pub pricesOf-cap : getD (pricesOf multipliers raise) (length multipliers) (pos 0) ≡ capPriceOf raise
   unfolding pricesOf
-  pricesOf-cap = getD-at (tab (length multipliers) (λ k. priceOf (at multipliers k))) (capPriceOf raise) [] (pos 0) (length multipliers) (length-tab _ _)
+  pricesOf-cap =
+      getD-at (tab (length multipliers) (λ k. priceOf (at multipliers k))) (capPriceOf raise) [] (pos 0) (length multipliers) (length-tab _ _)
 
 -- ---- where not all are in range, there is one that is off it
 all-no-at : (n : ℕ) (p : ℕ → Bool) → all n p ≡ false → (k : ℕ) × (k < n) × (p k ≡ false)

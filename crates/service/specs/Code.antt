@@ -28,7 +28,8 @@ use Rattle.rounding.specs.declared.Times.{Times}
 use Rattle.service.specs.Place as Place
 use Rattle.service.specs.Place.{answered, refused, answerFor, placeBlock, place}
 use Rattle.service.specs.Promise.{Answers, Answered}
-use Rattle.service.specs.Laws.{plan-and-prices, out-of-range, not-bounded, is-answer, too-small, engine-refused, engine-answers, block-refused, block-placed, block-answer, place-answer}
+use Rattle.service.specs.Laws.{plan-and-prices, out-of-range, not-bounded, is-answer, too-small, engine-refused, engine-answers, block-refused}
+use Rattle.service.specs.Laws.{block-placed, block-answer, place-answer}
 use Rattle.service.specs.Written.{same-block, answer-sized, answer-written, all-kept}
 use Rattle.service.specs.declared.Placement.{Placement}
 use Rattle.service.specs.Held.{answerIn, Holds, PlacedFor, holds-refusal, holds-answer, holds-number}
@@ -85,7 +86,8 @@ module _ {b : Block} (S : Sound b) (R : Ranged (blockOf b)) (s : Solved) (x-room
             subst₂ (PlanAndPrices (blockOf b)) (sym times-are) (sym prices-are)
             (plan-and-prices R _ _ (s .passes) (s .raise) x-long μ-long (judged-is e))
 
-        pub times-answer : {p : Placement} → Holds (answered (answerFor (blockOf b) (take (b .words) (t .times)) (take (b .anchors + b .spans + 1) ps) (s .passes))) b p
+        pub times-answer : {p : Placement}
+            → Holds (answered (answerFor (blockOf b) (take (b .words) (t .times)) (take (b .anchors + b .spans + 1) ps) (s .passes))) b p
             → Holds (writtenOf b s) b p
         times-answer h =
             record {

@@ -33,7 +33,8 @@ use Rattle.plan_check.specs.Laws.{gap-fits}
 use Rattle.cap.specs.Capped as Engine
 use Rattle.cap.specs.Capped.{Capped, optimal, engine}
 use Rattle.rounding.specs.Lists.{timesOf, allInRange, pricesOf}
-use Rattle.rounding.specs.Laws.{time-off, length-timesOf, timesOf-at, length-pricesOf, pricesOf-small, all-finite, pricesOf-cap, cap-from, cap-small, one-off}
+use Rattle.rounding.specs.Laws.{time-off, length-timesOf, timesOf-at, length-pricesOf, pricesOf-small, all-finite, pricesOf-cap, cap-from, cap-small}
+use Rattle.rounding.specs.Laws.{one-off}
 use Rattle.block_solve.specs.Solve.{solveBlock}
 use Rattle.block_solve.specs.Laws.{solved-sized, engine-always, solved-bounded}
 use Rattle.service.specs.Place.{Placed, answered, refused, answerFor, judged, written, ofEngine, placeBlock, placeRead, place, numberOf}

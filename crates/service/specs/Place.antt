@@ -61,15 +61,15 @@ placeRead (Outcome.block b) room = placeBlock b room
 unfoldable pub place : List ℕ → (room : ℕ) → Placed
 place s room = placeRead (read s) room
 
--- ---- what a call leaves: its number, the slice o, and how many bytes of it are the file's. "A refusal is its number only; lent slices are untouched."
+-- ---- what a call leaves: its number, the slice, and how many of its bytes are the file's. "A refusal is its number only; lent slices are untouched."
 unfoldable pub numberOf : Placed → ℕ
 numberOf (answered a) = 0
 numberOf (refused n) = n
 
-unfoldable pub sliceAfter : Placed → List ℕ → List ℕ
+unfoldable pub sliceAfter : Placed → (slice : List ℕ) → List ℕ
 sliceAfter (answered a) o = over (file a) o
 sliceAfter (refused n) o = o
 
-unfoldable pub writtenAfter : Placed → ℕ → ℕ
+unfoldable pub writtenAfter : Placed → (old : ℕ) → ℕ
 writtenAfter (answered a) old = length (file a)
 writtenAfter (refused n) old = old

@@ -25,7 +25,7 @@ pub record Answers (b : Block) (a : Answer) : Type 0 where
   pub bounded : Bounded b (a .times)
   -- "The written gap is this number for the written times and prices"
   pub gap-is : a .gap ≡ gap b (a .times) (pricesFrom b (a .prices))
-  -- the passes are those that the engine's definition makes
+  -- "passes of the accepted solve": the definition's, "at most 100 + 20 × (variables and slacks)"
   pub x : List Float
   pub multipliers : List Float
   pub raise : Float
