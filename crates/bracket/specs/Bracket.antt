@@ -1,4 +1,4 @@
--- qp.rs, `search_multiplier`'s bracket. The record is the code's; its lists are as long as the problem gives, or the code's arrays.
+-- qp.rs, `search_multiplier`'s variables, which the code has as one record: the ends with their values, `best`, `warm`, whether `step` is even.
 use mathlib.Core.Bool.{Bool, true, false, not}
 use mathlib.Core.List.{List}
 use Prim.Native.Nat.{ℕ}

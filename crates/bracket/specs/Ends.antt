@@ -91,7 +91,8 @@ inside-over b h = go (lt (b .low) (b .middle)) (lt (b .middle) (b .high)) h
 module _ (b : Bracket) (v : Held b) where
   halved : Middled b (halve b)
   unfolding halve
-  halved = record { low-same = refl; high-same = refl; held = middle-fits (b .low) (b .high); up = middle-upward (b .low) (b .high) (v .from) (v .rising) }
+  halved =
+      record { low-same = refl; high-same = refl; held = middle-fits (b .low) (b .high); up = middle-upward (b .low) (b .high) (v .from) (v .rising) }
 
   secanted : (limit : Float) → inside (secant limit b) ≡ true → Middled b (secant limit b)
   unfolding secant

@@ -13,7 +13,7 @@ use Rattle.sizes.specs.Sizes as Sizes
 use Rattle.bracket.specs.declared.Bracket.{Bracket}
 use Rattle.bracket.specs.Bracket.{bracketOf, new, exceed, accept, warmed, double, secant, halve, inside, cut, closed}
 
--- which branch was taken; belongs in folds
+-- which branch was taken
 pub pick-told : {A : Type 0} {z : A} (k : Bool) (x y : A) → pick k x y ≡ z → ((k ≡ true) × (x ≡ z)) ⊎ ((k ≡ false) × (y ≡ z))
 unfolding pick
 pick-told true x y e = inl (refl, e)

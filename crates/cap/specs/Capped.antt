@@ -65,7 +65,7 @@ pub data Answer : Type 0 where
   blankBound : Answer
   engine : Capped → Answer
 
-unfoldable pub solveTurnoverCapped : Quadratic → (cap : Float) (x multipliers : ℕ) → Answer
+unfoldable pub solveTurnoverCapped : Quadratic → (cap : Float) (xLength multipliersLength : ℕ) → Answer
 solveTurnoverCapped (quadratic n m r q c e b lower upper a rowLower rowUpper at slopes start) cap x multipliers =
     pick (shaped (quadratic n m r q c e b lower upper a rowLower rowUpper at slopes start) x multipliers)
     (pick (blank n r lower upper rowLower rowUpper)
@@ -84,7 +84,7 @@ number (engine unbounded) = 13
 number (engine notConverged) = 14
 
 -- what the caller's slices, its number of passes and its raise hold afterwards, by what they held
-unfoldable pub xOr : Answer → List Float → List Float
+unfoldable pub xOr : Answer → (held : List Float) → List Float
 xOr wrongShape o = o
 xOr blankBound o = o
 xOr (engine (optimal x multipliers passes raise)) o = x
@@ -93,7 +93,7 @@ xOr (engine singular) o = o
 xOr (engine unbounded) o = o
 xOr (engine notConverged) o = o
 
-unfoldable pub multipliersOr : Answer → List Float → List Float
+unfoldable pub multipliersOr : Answer → (held : List Float) → List Float
 multipliersOr wrongShape o = o
 multipliersOr blankBound o = o
 multipliersOr (engine (optimal x multipliers passes raise)) o = multipliers
@@ -102,7 +102,7 @@ multipliersOr (engine singular) o = o
 multipliersOr (engine unbounded) o = o
 multipliersOr (engine notConverged) o = o
 
-unfoldable pub passesOr : Answer → ℕ → ℕ
+unfoldable pub passesOr : Answer → (held : ℕ) → ℕ
 passesOr wrongShape o = o
 passesOr blankBound o = o
 passesOr (engine (optimal x multipliers passes raise)) o = passes
@@ -111,7 +111,7 @@ passesOr (engine singular) o = o
 passesOr (engine unbounded) o = o
 passesOr (engine notConverged) o = o
 
-unfoldable pub raiseOr : Answer → Float → Float
+unfoldable pub raiseOr : Answer → (held : Float) → Float
 raiseOr wrongShape o = o
 raiseOr blankBound o = o
 raiseOr (engine (optimal x multipliers passes raise)) o = raise
@@ -129,6 +129,7 @@ pub record Written (a : Answer) (r : ℕ) (x x' multipliers multipliers' : List 
   pub raise-written : raise' ≡ raiseOr a raise
 
 -- the contract of the call
-abbrev pub Answered : Quadratic → (cap : Float) (r : ℕ) (x x' multipliers multipliers' : List Float) (passes passes' : ℕ) (raise raise' : Float) → Type 0
+abbrev pub Answered : Quadratic → (cap : Float) (r : ℕ) (x x' multipliers multipliers' : List Float) (passes passes' : ℕ)
+    (raise raise' : Float) → Type 0
 Answered p cap r x x' multipliers multipliers' passes passes' raise raise' =
     Written (solveTurnoverCapped p cap (length x) (length multipliers)) r x x' multipliers multipliers' passes passes' raise raise'

@@ -25,8 +25,10 @@ use Rattle.multiplier.specs.Sized as Sized
 use Rattle.multiplier.specs.Laws.{ended-found, ended-nonFinite, ended-singular, ended-unbounded, ended-notConverged}
 use Rattle.multiplier.specs.Search.{Problem, problem, Ended, endedOf, solve, reachAndNarrow}
 use Rattle.cap.specs.declared.Solution as Declared
-use Rattle.cap.specs.Capped.{Capped, optimal, nonFinite, singular, unbounded, notConverged, capped, cappedOf, accepted, searchBy, searchMultiplier}
-use Rattle.cap.specs.Capped.{Answer, wrongShape, blankBound, engine, solveTurnoverCapped, number, xOr, multipliersOr, passesOr, raiseOr, Written}
+use Rattle.cap.specs.Capped.{Capped, optimal, nonFinite, singular, unbounded, notConverged, capped, cappedOf, accepted, searchBy}
+use Rattle.cap.specs.Capped.{searchMultiplier}
+use Rattle.cap.specs.Capped.{Answer, wrongShape, blankBound, engine, solveTurnoverCapped, number, xOr, multipliersOr, passesOr, raiseOr}
+use Rattle.cap.specs.Capped.{Written}
 
 -- ---- what a verdict answers
 module _ (x multipliers : List Float) (passes : ℕ) (raise : Float) where

@@ -1,4 +1,4 @@
-// The library's face: every call that C or Rust may make, under its C name. include/places.h says what each means. A slice is a pointer and a
+// The public calls: every one that C or Rust may make, under its C name. include/places.h says what each means. A slice is a pointer and a
 // count. A result of 0 is success, 100 an answer without values, any other a number of document 01's refusal table; whatever is not 0 writes
 // nothing.
 ghost use mathlib.Core.Path.{_≡_};

@@ -18,7 +18,7 @@ pub record Held : Type 0 where
   pub marks : List Bool
   pub factor : List Float
 
-abbrev pub held : List Bool → List Float → Held
+abbrev pub held : (s : List Bool) (l : List Float) → Held
 held s l = record { marks = s; factor = l }
 
 -- how many of the listed are not marked

@@ -50,7 +50,7 @@ fold-down (suc n) f a =
     ∙ fold-down n f (f n a))
 
 -- ---- the marks as the source's list
-abbrev pub source : ℕ → Held → Two (List ℕ) (List Float)
+abbrev pub source : (o : ℕ) → Held → Two (List ℕ) (List Float)
 source o s = two (rising o (s .marks)) (s .factor)
 
 -- what one step of `leaving` keeps
@@ -116,7 +116,7 @@ module _ (o : ℕ) (few : o ≤ Sizes.originals) (w : ℕ → Bool) where
     pub below : (j : ℕ) → j < n → marked (s .marks) j ≡ w j
     pub within : (j : ℕ) → j < o → marked (s .marks) j ≡ true → w j ≡ true
 
-  abbrev pub AgreeOut : ℕ → Out Held → Type 0
+  abbrev pub AgreeOut : (n : ℕ) → Out Held → Type 0
   AgreeOut n (out true s) = Agree n s
   AgreeOut n (out false s) = Unit
 

@@ -1,5 +1,5 @@
--- What the range-space method has of a system: the factor l of K, with no 0 on its diagonal, W with its columns at unit length, their lengths, and the
--- factor g of WᵀW.
+-- What the range-space method has of a system: the factor l of K, with no 0 on its diagonal, W with its columns at unit length, their lengths, and
+-- the factor g of WᵀW.
 use Prim.Native.Nat.{ℕ, _*_, _≤_}
 use mathlib.Core.Path.{_≡_}
 use mathlib.Core.Bool.{true}

@@ -50,7 +50,7 @@ unfoldable pub block : (q : List Float) (n : ℕ) (indices : List ℕ) → List 
 block q n indices = let k = length indices in selectColumns k (selectRows n n q k indices) k indices
 
 -- `Cholesky::new(a).filter(positive_definite)`, with a k by k
-unfoldable pub passing : ℕ → Out (List Float) → Out (List Float)
+unfoldable pub passing : (k : ℕ) → Out (List Float) → Out (List Float)
 passing k (out true l) = out (positiveDefinite l k) l
 passing k (out false l) = out false l
 

@@ -55,7 +55,7 @@ pub data Answer : Type 0 where
   engine : Kkt → Answer
 
 -- with the lengths of the slices for x and the multipliers
-unfoldable pub solveKkt : System → (x multipliers : ℕ) → Answer
+unfoldable pub solveKkt : System → (xLength multipliersLength : ℕ) → Answer
 solveKkt (system n m k c e b) x multipliers =
     pick (shaped n m (length k) (length c) (length e) (length b) x multipliers) (engine (solveUnits (system n m k c e b))) wrongShape
 
@@ -68,14 +68,14 @@ number (engine nonFinite) = 11
 number (engine singular) = 12
 
 -- what the caller's slices hold afterwards, by what they held
-unfoldable pub xOr : Answer → List Float → List Float
+unfoldable pub xOr : Answer → (held : List Float) → List Float
 xOr wrongShape o = o
 xOr (engine (optimum x multipliers)) o = x
 xOr (engine noOptimum) o = o
 xOr (engine nonFinite) o = o
 xOr (engine singular) o = o
 
-unfoldable pub multipliersOr : Answer → List Float → List Float
+unfoldable pub multipliersOr : Answer → (held : List Float) → List Float
 multipliersOr wrongShape o = o
 multipliersOr (engine (optimum x multipliers)) o = multipliers
 multipliersOr (engine noOptimum) o = o

@@ -1,6 +1,6 @@
 -- Document 01: 'Every search ends because fewer floats lie between its ends.' The definitions of the two loops have as many steps as there are
--- doublings, or floats, left; they are never spent, whatever the solves answer (`reached-dead`, `narrowed-dead`, `search-dead`): what stands for 'spent' in them,
--- where the Rust has `unreachable!`, is never reached. So each loop's own equations hold, with no count in them.
+-- doublings, or floats, left; they are never spent, whatever the solves answer (`reached-dead`, `narrowed-dead`, `search-dead`): what stands for
+-- 'spent' in them, where the Rust has `unreachable!`, is never reached. So each loop's own equations hold, with no count in them.
 use mathlib.Core.Path.{_≡_, sym, subst}
 use mathlib.Core.Bool.{true, false}
 use mathlib.Core.Logic.{⊎-elim}

@@ -52,7 +52,7 @@ unfoldable pub steppedOf : (n w : ℕ) → Declared.Stepped → Pass Bracket End
 steppedOf n w s = pick (s .more) (more (bracketOf n w (s .bracket))) (done (endedOf n w s))
 
 -- what a function of the code does with a bracket, whatever the counts
-abbrev pub Gives : Declared.Stepped → Bracket → (Bracket → Pass Bracket Ended) → Type 0
+abbrev pub Gives : Declared.Stepped → Bracket → (f : Bracket → Pass Bracket Ended) → Type 0
 Gives s b f = (n w : ℕ) → steppedOf n w s ≡ f (bracketOf n w b)
 
 abbrev pub goes : Bracket → Pass Bracket Ended

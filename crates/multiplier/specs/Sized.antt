@@ -18,7 +18,7 @@ use Rattle.multiplier.specs.Search.{Problem, problem, Ended, found, nonF
 use Rattle.multiplier.specs.Search.{doubleOn, doubleBy, doubleStep, reachedOr, reached, cutBy, cutAt, cutStep, narrowedOr, narrowed}
 use Rattle.multiplier.specs.Search.{thenNarrowed, reachAndNarrow}
 
--- what every step keeps, and every answer has, the whole has; belongs in folds
+-- what every step keeps, and every answer has, the whole has
 until-all : {S A : Type 0} (step : S → Pass S A) (spent : A) (μ : S → ℕ) (P : S → Type 0) (Q : A → Type 0) → ((s : S) → P s → Kept P Q (step s)) →
     Q spent → (s : S) → P s → Q (until step spent μ s)
 unfolding until Kept

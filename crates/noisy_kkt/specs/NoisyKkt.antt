@@ -31,7 +31,7 @@ stepped n d k c z x0 none = unknown
 unfoldable pub minimum : (n d : ℕ) (k c z x0 : List Float) → Least
 minimum n d k c z x0 = stepped n d k c z x0 (reducedHessian n d k z)
 
-unfoldable pub pointOf : ℕ → Point → Least
+unfoldable pub pointOf : (n : ℕ) → Point → Least
 pointOf n r = pick (r .found) (least (take n (r .x))) unknown
 
 -- ---- of a scaled system

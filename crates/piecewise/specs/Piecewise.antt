@@ -93,7 +93,7 @@ long n m r lower upper rowLower rowUpper at slopes start x multipliers =
     (eqb multipliers (m + r)))))))))
 
 -- with the lengths of the slices for x and the multipliers
-unfoldable pub shaped : Quadratic → (x multipliers : ℕ) → Bool
+unfoldable pub shaped : Quadratic → (xLength multipliersLength : ℕ) → Bool
 shaped (quadratic n m r q c e b lower upper a rowLower rowUpper at slopes start) x multipliers =
     both (sized n m r (length q) (length c) (length e) (length b) (length a))
     (long n m r (length lower) (length upper) (length rowLower) (length rowUpper) (length at) (length slopes) (length start) x multipliers)
@@ -108,7 +108,7 @@ pub data Answer : Type 0 where
   blankBound : Answer
   engine : Engine.Answer → Answer
 
-unfoldable pub solvePiecewise : Quadratic → (x multipliers : ℕ) → Answer
+unfoldable pub solvePiecewise : Quadratic → (xLength multipliersLength : ℕ) → Answer
 solvePiecewise (quadratic n m r q c e b lower upper a rowLower rowUpper at slopes start) x multipliers =
     let p = quadratic n m r q c e b lower upper a rowLower rowUpper at slopes start in
     pick (shaped p x multipliers) (pick (blank n r lower upper rowLower rowUpper) blankBound (engine (solve p))) wrongShape
@@ -129,7 +129,7 @@ number (engine unbounded) = 13
 number (engine notConverged) = 14
 
 -- what the caller's slices and its number of passes hold afterwards, by what they held
-unfoldable pub xOr : Answer → List Float → List Float
+unfoldable pub xOr : Answer → (held : List Float) → List Float
 xOr wrongShape o = o
 xOr blankBound o = o
 xOr (engine (optimal x multipliers passes)) o = x
@@ -138,7 +138,7 @@ xOr (engine singular) o = o
 xOr (engine unbounded) o = o
 xOr (engine notConverged) o = o
 
-unfoldable pub multipliersOr : Answer → List Float → List Float
+unfoldable pub multipliersOr : Answer → (held : List Float) → List Float
 multipliersOr wrongShape o = o
 multipliersOr blankBound o = o
 multipliersOr (engine (optimal x multipliers passes)) o = multipliers
@@ -147,7 +147,7 @@ multipliersOr (engine singular) o = o
 multipliersOr (engine unbounded) o = o
 multipliersOr (engine notConverged) o = o
 
-unfoldable pub passesOr : Answer → ℕ → ℕ
+unfoldable pub passesOr : Answer → (held : ℕ) → ℕ
 passesOr wrongShape o = o
 passesOr blankBound o = o
 passesOr (engine (optimal x multipliers passes)) o = passes

@@ -30,7 +30,7 @@ tolerance n m e = fmul (fmul (fromℕ (max n m)) epsilon) (largestNorm n m e)
 
 -- ---- the remaining column of the largest norm
 -- `remaining` as a mark for each column: the source's list holds the marked ones in rising order
-abbrev pub remains : List Bool → ℕ → Bool
+abbrev pub remains : (remaining : List Bool) (j : ℕ) → Bool
 remains remaining j = getD remaining j false
 
 -- `max_by` keeps the last of equals

@@ -13,22 +13,22 @@ use Rattle.triangular.specs.Triangular as Triangular
 use Rattle.eigen.specs.Eigen.{Eigen, nothing, symmetricEigen}
 
 -- NaN where b is the shorter
-unfoldable pub dot : List Float → List Float → Float
+unfoldable pub dot : (a b : List Float) → Float
 dot a b = pick (leb (length a) (length b)) (Vector.dot (length a) a b) nan
 
 -- whether the slices are those of n variables, at most 48
-unfoldable pub shaped : ℕ → ℕ → ℕ → ℕ → ℕ → Bool
+unfoldable pub shaped : (n a room values vectors : ℕ) → Bool
 shaped n a room values vectors = both (leb n 48) (both (eqb a (n * n)) (both (eqb room (n * n)) (both (eqb values n) (eqb vectors (n * n)))))
 
-unfoldable pub eigen : ℕ → List Float → ℕ → ℕ → ℕ → Eigen
+unfoldable pub eigen : (n : ℕ) (a : List Float) (room values vectors : ℕ) → Eigen
 eigen n a room values vectors = pick (shaped n (length a) room values vectors) (symmetricEigen n a) nothing
 
 -- the factor of a symmetric matrix of at most 48 rows
-unfoldable pub cholesky : ℕ → List Float → Out (List Float)
+unfoldable pub cholesky : (n : ℕ) (a : List Float) → Out (List Float)
 cholesky n a = pick (leb n 48) (pick (leb (n * n) (length a)) (Triangular.cholesky n a) (out false a)) (out false a)
 
 -- a hook's answer, 1 or 0, beside the lists
-abbrev pub hook : {A : Type 0} → ℕ → A → Out A
+abbrev pub hook : {A : Type 0} (r : ℕ) (l : A) → Out A
 hook r l = out (eqb r 1) l
 
 pub record Shape (n a room values vectors : ℕ) : Type 0 where

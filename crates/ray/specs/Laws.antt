@@ -32,7 +32,7 @@ length-nullPart n d values vectors cutoff z c =
     fold-keep (λ (l : List Float). length l ≡ n) _ _ _ (length-filled n _) (λ i l h e. length-nullOne n d z vectors c _ l)
 
 -- a direction of n elements, if there is one
-abbrev pub Fills : ℕ → Descent → Type 0
+abbrev pub Fills : (n : ℕ) → Descent → Type 0
 Fills n (descent direction) = length direction ≡ n
 Fills n noDescent = n ≡ n
 

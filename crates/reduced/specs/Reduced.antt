@@ -12,15 +12,15 @@ use Rattle.eigen.specs.Eigen.{Eigen, eigen, nothing, symmetricEigen, range}
 use Rattle.reduced.specs.declared.Hessian.{Hessian}
 
 -- `&c - k * &x`
-unfoldable pub gradient : ℕ → List Float → List Float → List Float → List Float
+unfoldable pub gradient : (n : ℕ) (k c x : List Float) → List Float
 gradient n k c x = sub n c (mulVec n n k x)
 
 -- `z.transpose() * (&c - k * &x0)`
-unfoldable pub reducedGradient : ℕ → ℕ → List Float → List Float → List Float → List Float → List Float
+unfoldable pub reducedGradient : (n d : ℕ) (k c z x : List Float) → List Float
 reducedGradient n d k c z x = trMulVec n d z (gradient n k c x)
 
 -- `z.transpose() * k * z`
-unfoldable pub projected : ℕ → ℕ → List Float → List Float → List Float
+unfoldable pub projected : (n d : ℕ) (k z : List Float) → List Float
 projected n d k z = mul d n d (trMul n d n z k) z
 
 -- ---- `reduced_hessian`: the eigendecomposition of ZᵀKZ, and the cutoff below which its eigenvalues count as zero
@@ -29,15 +29,15 @@ pub data Reduced : Type 0 where
   none : Reduced
 
 -- `eigen.values.amax().max(k.amax()) * (k.nrows() + 1) as f64 * f64::EPSILON`
-unfoldable pub cutoff : ℕ → ℕ → List Float → List Float → Float
+unfoldable pub cutoff : (n d : ℕ) (k values : List Float) → Float
 cutoff n d k values = fmul (fmul (max (amax d values) (amax (n * n) k)) (fromℕ (n + 1))) epsilon
 
 -- `.ok_or(CutupError::SingularCovariance)?`
-unfoldable pub withCutoff : ℕ → ℕ → List Float → Eigen → Reduced
+unfoldable pub withCutoff : (n d : ℕ) (k : List Float) → Eigen → Reduced
 withCutoff n d k (eigen values vectors) = reduced values vectors (cutoff n d k values)
 withCutoff n d k nothing = none
 
-unfoldable pub reducedHessian : ℕ → ℕ → List Float → List Float → Reduced
+unfoldable pub reducedHessian : (n d : ℕ) (k z : List Float) → Reduced
 reducedHessian n d k z = withCutoff n d k (symmetricEigen d (projected n d k z))
 
 -- what counts of what the code leaves
@@ -58,5 +58,5 @@ unfoldable pub rangePart : (d : ℕ) (values vectors : List Float) (cutoff : Flo
 rangePart d values vectors cutoff gradient = rangeEach d values vectors gradient (range d values cutoff) (filled d f0)
 
 -- `x0 + z * v`
-unfoldable pub moved : ℕ → ℕ → List Float → List Float → List Float → List Float
+unfoldable pub moved : (n d : ℕ) (x0 z v : List Float) → List Float
 moved n d x0 z v = add n x0 (mulVec n d z v)

@@ -47,11 +47,11 @@ withinRounding r =
     Overflowed
 
 -- ---- `Scaled::new`: K over its average diagonal entry, and each column of E over its largest entry
-unfoldable pub average : ℕ → List Float → Float
+unfoldable pub average : (n : ℕ) (k : List Float) → Float
 average n k = fdiv (trace n k) (fromℕ n)
 
 -- 1 where the average is 0; `SingularCovariance` where it is negative or not finite
-unfoldable pub kScale : ℕ → List Float → Scale
+unfoldable pub kScale : (n : ℕ) (k : List Float) → Scale
 kScale n k =
     pick (eq (average n k) f0) (By f1)
     (pick (isFinite (average n k)) (pick (lt f0 (average n k)) (By (average n k)) Refused) Refused)
@@ -60,9 +60,9 @@ kScale n k =
 unfoldable pub above0Or1 : Float → Float
 above0Or1 s = pick (lt f0 s) s f1
 
-unfoldable pub above0Or1Each : ℕ → List Float → List Float
+unfoldable pub above0Or1Each : (n : ℕ) (l : List Float) → List Float
 above0Or1Each n l = tab n (λ i. above0Or1 (at l i))
 
 -- the largest entry of each column of E, or 1 where that's zero; each column of E over it is `columnsDivided`
-unfoldable pub columnScales : ℕ → ℕ → List Float → List Float
+unfoldable pub columnScales : (n m : ℕ) (e : List Float) → List Float
 columnScales n m e = above0Or1Each m (columnsAmax n m e)

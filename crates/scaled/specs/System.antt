@@ -1,4 +1,4 @@
--- A KKT system: K is n by n, c has n elements, E is n by m, b has m.
+-- qp.rs, the tuple `(k, c, e, b)` of Kx + Eλ = c, Eᵀx = b: K is n by n, c has n elements, E is n by m, b has m.
 use Prim.Native.Nat.{ℕ, _*_, _≤_}
 use mathlib.Core.List.{List}
 use lib.ListN.{length}

@@ -113,7 +113,8 @@ pub free-all-placed : (n : ℕ) (segments : List Segments) (fixed : List Bool) (
     AllPlaced n segments (freeAll n segments fixed state)
 unfolding freeAll
 free-all-placed n segments fixed state cut placed =
-    tab-placed n segments state (freeAll n segments fixed state) (λ i. freeOne (getD fixed i false) (stateAt state i) (segmentsAt segments i)) one refl
+    tab-placed n segments state (freeAll n segments fixed state) (λ i. freeOne (getD fixed i false) (stateAt state i) (segmentsAt segments i)) one
+    refl
   where
     one : (i : ℕ) → i < n → Placed (segmentsAt segments i) (freeOne (getD fixed i false) (stateAt state i) (segmentsAt segments i))
     one i l =

@@ -45,14 +45,14 @@ Placed s (At p) = p ≤ last s
 Placed s (Free j) = j < last s
 
 -- one of a list of them; past the end it has no point
-abbrev pub segmentsAt : List Segments → ℕ → Segments
+abbrev pub segmentsAt : List Segments → (i : ℕ) → Segments
 segmentsAt l i = getD l i (record { points = []; slopes = []; count = 0 })
 
-abbrev pub stateAt : List Spot → ℕ → State
+abbrev pub stateAt : List Spot → (i : ℕ) → State
 stateAt l i = getD l i (record { state = At 0 }) .state
 
-abbrev pub AllCut : ℕ → List Segments → Type 0
+abbrev pub AllCut : (n : ℕ) → List Segments → Type 0
 AllCut n segments = (i : ℕ) → i < n → Cut (segmentsAt segments i)
 
-abbrev pub AllPlaced : ℕ → List Segments → List Spot → Type 0
+abbrev pub AllPlaced : (n : ℕ) → List Segments → List Spot → Type 0
 AllPlaced n segments state = (i : ℕ) → i < n → Placed (segmentsAt segments i) (stateAt state i)

@@ -20,7 +20,9 @@ use Rattle.matrix.specs.Laws.{cell-tabM, trMulVec-at}
 use Rattle.units.specs.Units.{scaleOr1, diagonalScales}
 use Rattle.segments.specs.declared.Segments.{Segments}
 use Rattle.segments.specs.Segments.{Cut, AllCut, segmentsAt}
-use Rattle.slacks.specs.Slacks.{entryQ, withSlacksQ, entryE, withSlacksE, withZeros, smaller, smallest, slackScale, slackScales, scalesWithSlacks, variableSegments, slackSegments, oneSegments, allSegments, unread, segmentsArray, startWithSlacks, slacksStart}
+use Rattle.slacks.specs.Slacks.{entryQ, withSlacksQ, entryE, withSlacksE, withZeros, smaller, smallest, slackScale, slackScales}
+use Rattle.slacks.specs.Slacks.{scalesWithSlacks, variableSegments, slackSegments, oneSegments, allSegments, unread, segmentsArray}
+use Rattle.slacks.specs.Slacks.{startWithSlacks, slacksStart}
 use Rattle.slacks.specs.Limits.{meetsRow, meetsRows}
 use Rattle.slacks.specs.Chain.{length-chain, chain-in, chain-past, tab-chain}
 

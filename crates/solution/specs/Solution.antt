@@ -21,17 +21,17 @@ pub data Kkt : Type 0 where
   nonFinite : Kkt
   singular : Kkt
 
-unfoldable pub answer : Verdict → List Float → List Float → Kkt
+unfoldable pub answer : Verdict → (x multipliers : List Float) → Kkt
 answer Solved x multipliers = optimum x multipliers
 answer NoOptimum x multipliers = noOptimum
 answer NonFiniteCovariance x multipliers = nonFinite
 answer SingularCovariance x multipliers = singular
 
-unfoldable pub solutionOf : ℕ → ℕ → Solution → Kkt
+unfoldable pub solutionOf : (n m : ℕ) → Solution → Kkt
 solutionOf n m r = answer (r .verdict) (take n (r .x)) (take m (r .multipliers))
 
 -- the system is solved to within rounding and x is finite, `match within_rounding(residual)`
-unfoldable pub judge : Rounding → ℕ → List Float → List Float → Kkt
+unfoldable pub judge : Rounding → (n : ℕ) (x multipliers : List Float) → Kkt
 judge Overflowed n x multipliers = singular
 judge Outside n x multipliers = noOptimum
 judge Within n x multipliers = pick (allFinite n x) (optimum x multipliers) singular
@@ -41,10 +41,10 @@ judged (system n m k c e b) x multipliers noise =
     judge (withinRounding (kktResidual (system n m k c e b) x multipliers noise)) n x multipliers
 
 -- `multipliers[j] * problem.k_scale / problem.column_scales[j]`
-unfoldable pub rescaledMultipliers : ℕ → List Float → Float → List Float → List Float
+unfoldable pub rescaledMultipliers : (m : ℕ) (multipliers : List Float) (scale : Float) (columns : List Float) → List Float
 rescaledMultipliers m multipliers scale columns = tab m (λ j. fdiv (fmul (at multipliers j) scale) (at columns j))
 
-unfoldable pub rescaled : ℕ → Float → List Float → Kkt → Kkt
+unfoldable pub rescaled : (m : ℕ) (scale : Float) (columns : List Float) → Kkt → Kkt
 rescaled m scale columns (optimum x multipliers) = optimum x (rescaledMultipliers m multipliers scale columns)
 rescaled m scale columns noOptimum = noOptimum
 rescaled m scale columns nonFinite = nonFinite

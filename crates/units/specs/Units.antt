@@ -11,20 +11,20 @@ use Rattle.matrix.specs.Matrix.{cell, column, columnsAmax, rowsDivided, columns
 
 -- ---- `checked`: whether x satisfies Eᵀx = b in the original units, each constraint to within 1e-8 of the size of its terms
 -- `(column / scale).component_mul(&x)`
-unfoldable pub terms : ℕ → List Float → List Float → Float → List Float
+unfoldable pub terms : (n : ℕ) (e x : List Float) (scale : Float) → List Float
 terms n e x scale = tab n (λ i. fmul (fdiv (at e i) scale) (at x i))
 
 -- `terms.iter().map(|t| t / largest).sum()` and `terms.iter().map(|t| (t / largest).abs()).sum()`
-unfoldable pub sumQuotients : ℕ → List Float → Float → Float
+unfoldable pub sumQuotients : (n : ℕ) (ts : List Float) (by : Float) → Float
 sumQuotients n ts by = sum n (λ i. fdiv (at ts i) by)
 
-unfoldable pub sumSizes : ℕ → List Float → Float → Float
+unfoldable pub sumSizes : (n : ℕ) (ts : List Float) (by : Float) → Float
 sumSizes n ts by = sum n (λ i. abs (fdiv (at ts i) by))
 
-unfoldable pub residual : ℕ → List Float → Float → Float → Float
+unfoldable pub residual : (n : ℕ) (ts : List Float) (target largest : Float) → Float
 residual n ts target largest = fsub (sumQuotients n ts largest) (fdiv target largest)
 
-unfoldable pub size : ℕ → List Float → Float → Float → Float
+unfoldable pub size : (n : ℕ) (ts : List Float) (target largest : Float) → Float
 size n ts target largest = fadd (sumSizes n ts largest) (abs (fdiv target largest))
 
 -- 1e-8
@@ -32,25 +32,25 @@ abbrev pub rounding : Float
 rounding = ofBits binary64 0x3e45_798e_e230_8c3a
 
 -- `!(residual.is_nan() || residual.abs() > 1e-8 * size)`
-unfoldable pub meets : ℕ → List Float → Float → Float → Bool
+unfoldable pub meets : (n : ℕ) (ts : List Float) (target largest : Float) → Bool
 meets n ts target largest =
     pick (isNan (residual n ts target largest)) false
     (pick (lt (fmul rounding (size n ts target largest)) (abs (residual n ts target largest))) false true)
 
 -- `terms.amax().max(target.abs())`
-unfoldable pub largestOf : ℕ → List Float → Float → Float
+unfoldable pub largestOf : (n : ℕ) (ts : List Float) (target : Float) → Float
 largestOf n ts target = max (amax n ts) (abs target)
 
-unfoldable pub columnMet : ℕ → List Float → Float → Bool
+unfoldable pub columnMet : (n : ℕ) (ts : List Float) (target : Float) → Bool
 columnMet n ts target =
     pick (isFinite (largestOf n ts target))
     (pick (eq (largestOf n ts target) f0) true (meets n ts target (largestOf n ts target)))
     false
 
-unfoldable pub met : ℕ → List Float → List Float → Float → Float → Bool
+unfoldable pub met : (n : ℕ) (x e : List Float) (target scale : Float) → Bool
 met n x e target scale = columnMet n (terms n e x scale) (fdiv target scale)
 
-unfoldable pub checked : ℕ → ℕ → List Float → List Float → List Float → List Float → Bool
+unfoldable pub checked : (n m : ℕ) (x e b columns : List Float) → Bool
 checked n m x e b columns = all m (λ j. met n x (column n e j) (at b j) (at columns j))
 
 -- ---- `Units`: the problem restated in u = Dx
@@ -58,38 +58,38 @@ checked n m x e b columns = all m (λ j. met n x (column n e j) (at b j) (at col
 unfoldable pub scaleOr1 : Float → Float
 scaleOr1 s = pick (isFinite s) (pick (lt f0 s) s f1) f1
 
-unfoldable pub scalesOr1 : ℕ → List Float → List Float
+unfoldable pub scalesOr1 : (n : ℕ) (l : List Float) → List Float
 scalesOr1 n l = tab n (λ i. scaleOr1 (at l i))
 
 -- the largest entry of each column of E, or 1 where that's zero or not finite
-unfoldable pub columnScales : ℕ → ℕ → List Float → List Float
+unfoldable pub columnScales : (n m : ℕ) (e : List Float) → List Float
 columnScales n m e = scalesOr1 m (columnsAmax n m e)
 
 -- `k[(i, j)] / scales[i] / scales[j]`: dividing by each scale in turn
-unfoldable pub unitsK : ℕ → List Float → List Float → List Float
+unfoldable pub unitsK : (n : ℕ) (k scales : List Float) → List Float
 unitsK n k scales = columnsDivided n n (rowsDivided n n k scales) scales
 
 -- `e[(i, j)] / column_scales[j] / scales[i]`
-unfoldable pub unitsE : ℕ → ℕ → List Float → List Float → List Float → List Float
+unfoldable pub unitsE : (n m : ℕ) (e scales columns : List Float) → List Float
 unitsE n m e scales columns = rowsDivided n m (columnsDivided n m e columns) scales
 
 -- `c.component_div(&scales)`, and each entry of b over its column's scale
-abbrev pub unitsC : ℕ → List Float → List Float → List Float
+abbrev pub unitsC : (n : ℕ) (c scales : List Float) → List Float
 unitsC n c scales = div n c scales
 
-abbrev pub unitsB : ℕ → List Float → List Float → List Float
+abbrev pub unitsB : (m : ℕ) (b columns : List Float) → List Float
 unitsB m b columns = div m b columns
 
 -- `original`: x = D⁻¹u, and `original_multipliers`
-abbrev pub original : ℕ → List Float → List Float → List Float
+abbrev pub original : (n : ℕ) (u scales : List Float) → List Float
 original n u scales = div n u scales
 
-abbrev pub originalMultipliers : ℕ → List Float → List Float → List Float
+abbrev pub originalMultipliers : (m : ℕ) (multipliers columns : List Float) → List Float
 originalMultipliers m multipliers columns = div m multipliers columns
 
 -- ---- `diagonal_scales`: sqrt(Kᵢᵢ) for each variable, or 1 where that's zero or not finite
-unfoldable pub diagonalScale : ℕ → List Float → ℕ → Float
+unfoldable pub diagonalScale : (n : ℕ) (k : List Float) (i : ℕ) → Float
 diagonalScale n k i = scaleOr1 (sqrt (cell k n i i))
 
-unfoldable pub diagonalScales : ℕ → List Float → List Float
+unfoldable pub diagonalScales : (n : ℕ) (k : List Float) → List Float
 diagonalScales n k = tab n (diagonalScale n k)
