@@ -3,7 +3,9 @@
 use mathlib.Core.Path.{_≡_, refl, sym, ap, _∙_, subst}
 use mathlib.Core.Bool.{true, false, true≢false}
 use Prim.Native.Nat.{ℕ, zero, suc, _-_, _*_, _/_, _^_, _≤_, _<_}
-use native.Mathlib.Nat.{le-trans, le-of-eq, lt-of-lt-of-le, lt-of-le-of-lt, lt-of-not-le, not-le-of-lt, zero-mul, mul-one, mul-comm, mul-assoc, mul-right-comm, mul-pos, mul-le-mul-left, mul-lt-mul-of-pos-right, lt-of-mul-lt-mul-right, eq-of-mul-eq-mul-right, mul-div-cancel, pow-suc}
+use native.Mathlib.Nat.{le-trans, le-of-eq, lt-of-lt-of-le, lt-of-le-of-lt, lt-of-not-le, not-le-of-lt, zero-mul, mul-one, mul-comm, mul-assoc}
+use native.Mathlib.Nat.{mul-right-comm, mul-pos, mul-le-mul-left, mul-lt-mul-of-pos-right, lt-of-mul-lt-mul-right, eq-of-mul-eq-mul-right}
+use native.Mathlib.Nat.{mul-div-cancel, pow-suc}
 use native.Mathlib.Omega.{arith}
 use borrow.Author.Tests.{lt-ltb, le-ltb}
 use lib.IntN.{ℤ, pos}
@@ -19,7 +21,8 @@ use Rattle.folds.specs.Fold.{false-true}
 use Rattle.arith.specs.Float.{f0, f2, fmul, fdiv}
 use Rattle.arith.specs.Neutral.{zero-is}
 use Rattle.arith.specs.Compare.{lt-trans}
-use Rattle.arith.specs.Order.{upward, inUnits, on-grid, units-is, units-exact, cross, not-cross, of-cross, inf-last, upward-above, under-inf, bits-lt}
+use Rattle.arith.specs.Order.{upward, inUnits, on-grid, units-is, units-exact, cross, not-cross, of-cross, inf-last, upward-above, under-inf}
+use Rattle.arith.specs.Order.{bits-lt}
 
 -- ---- 2, and half of the largest f64, `f64::MAX / 2.0`
 abbrev pub halfMax : Float

@@ -53,9 +53,9 @@ abbrev pub fromℕ : ℕ → Float
 fromℕ n = ofInt binary64 (pos n)
 
 -- an element of a list; past the end it is nan
-abbrev pub at : List Float → ℕ → Float
+abbrev pub at : (l : List Float) (i : ℕ) → Float
 at l i = getD l i nan
 
 -- the sum of g 0, .., g (n - 1): from +0, in rising order
-abbrev pub sum : ℕ → (ℕ → Float) → Float
+abbrev pub sum : (n : ℕ) (g : ℕ → Float) → Float
 sum n g = fold n (λ k s. fadd s (g k)) f0

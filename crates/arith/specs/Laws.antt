@@ -9,7 +9,8 @@ use lib.Ieee.{Float, nan, inf, fin, isNan, neg, lt, eq}
 use Rattle.folds.specs.Fold.{pick, pick-keep, pick-by, both, both-yes, both-true, false-true, false-of}
 use Rattle.arith.specs.Float.{fneg}
 use Rattle.arith.specs.Scalar.{isFinite, isInfinite, negative, abs, clamp, max, min, totalLess}
-use Rattle.arith.specs.Compare.{lt-irrefl, lt-asym, lt-passes, lt-number, nan-before, nan-after, eq-not, eq-lt, eq-number, eq-trans, lt-passes-back}
+use Rattle.arith.specs.Compare.{lt-irrefl, lt-asym, lt-passes, lt-number, nan-before, nan-after, eq-not, eq-lt, eq-number, eq-trans}
+use Rattle.arith.specs.Compare.{lt-passes-back}
 
 -- ---- finite values
 pub fin-finite : (s : Bool) (m : ℕ) (e : ℤ) → isFinite (fin s m e) ≡ true

@@ -90,7 +90,7 @@ pub half-upward : (x : Float) → T (upward x) → T (upward (fdiv x f2))
 half-upward x u = subst (λ (t : Float). T (upward (fdiv x t))) (sym two-is) (halved x u)
 
 -- ---- the middle
-unfoldable pub middle : Float → Float → Float
+unfoldable pub middle : (a b : Float) → Float
 middle a b = fadd a (fdiv (fsub b a) f2)
 
 pub middle-upward : (a b : Float) → T (upward a) → lt a b ≡ true → T (upward (middle a b))

@@ -3,12 +3,14 @@ use mathlib.Core.Path.{_≡_, refl, sym, ap, _∙_}
 use mathlib.Core.Bool.{Bool, true, false, cond}
 use mathlib.Core.Logic.{⊎-elim}
 use Prim.Native.Nat.{ℕ, zero, suc, _+_, _-_, _*_, _/_, _^_, _<_}
-use native.Mathlib.Nat.{zero-mul as ℕ-zero-mul, mul-zero as ℕ-mul-zero, mul-one as ℕ-mul-one, one-mul as ℕ-one-mul, mul-right-comm, mul-pos, zero-lt-suc, eq-or-lt-of-le, le-of-suc-le-suc, not-suc-le-zero}
+use native.Mathlib.Nat.{zero-mul as ℕ-zero-mul, mul-zero as ℕ-mul-zero, mul-one as ℕ-mul-one, one-mul as ℕ-one-mul, mul-right-comm, mul-pos}
+use native.Mathlib.Nat.{zero-lt-suc, eq-or-lt-of-le, le-of-suc-le-suc, not-suc-le-zero}
 use native.Mathlib.Omega.{arith}
 use lib.IntN.{ℤ, pos}
 use lib.Dec.{T, ltb, lt→ltb}
 use borrow.Author.Tests.{lt-ltb, le-ltb}
-use lib.Ieee.{Float, nan, inf, fin, Format, binary64, prec, low, up, down, hid, top, size, unlike, round, sum as ieee-sum, add, mul, fits, ofBits, toBits}
+use lib.Ieee.{Float, nan, inf, fin, Format, binary64, prec, low, up, down, hid, top, size, unlike, round, sum as ieee-sum, add, mul, fits, ofBits}
+use lib.Ieee.{toBits}
 use lib.Ieee.Fits.{up-pos, down-pos, round-fits}
 use lib.Ieee.Bits.{ofBits-toBits}
 use lib.Ieee.Exact.{HasValue, round-exact}

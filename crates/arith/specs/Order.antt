@@ -4,7 +4,9 @@ use mathlib.Core.Path.{_≡_, refl, sym, ap, _∙_, subst}
 use mathlib.Core.Logic.{inl, inr}
 use mathlib.Core.Bool.{Bool, true, false, not, _&&_}
 use Prim.Native.Nat.{ℕ, zero, suc, _+_, _-_, _*_, _/_, _%_, _^_, _≤_, _<_}
-use native.Mathlib.Nat.{sub-le, le-trans, le-of-eq, le-of-lt, lt-of-lt-of-le, lt-of-le-of-lt, eq-or-lt-of-le, zero-add, add-comm, zero-mul, mul-comm, mul-assoc, mul-right-comm, suc-mul, mul-le-mul-right, mul-lt-mul-of-pos-right, lt-of-mul-lt-mul-right, mul-div-cancel, div-mul-le-self, div-lt-iff-lt-mul, le-div-iff-mul-le}
+use native.Mathlib.Nat.{sub-le, le-trans, le-of-eq, le-of-lt, lt-of-lt-of-le, lt-of-le-of-lt, eq-or-lt-of-le, zero-add, add-comm, zero-mul, mul-comm}
+use native.Mathlib.Nat.{mul-assoc, mul-right-comm, suc-mul, mul-le-mul-right, mul-lt-mul-of-pos-right, lt-of-mul-lt-mul-right, mul-div-cancel}
+use native.Mathlib.Nat.{div-mul-le-self, div-lt-iff-lt-mul, le-div-iff-mul-le}
 use native.Mathlib.Omega.{arith}
 use borrow.Author.Tests.{ltb-true, ltb-false, lt-ltb}
 use lib.IntN.{ℤ, pos}
@@ -274,7 +276,7 @@ bits-most f (fin false n d) q v =
     le-of-lt (lt-of-le-of-lt (le-of-eq (bits-is f n d)) (below-inf f (inUnits f (fin false n d)) (units-under f false n d q)))
 
 -- ---- the bits that lie from x up to y; with a float strictly between, fewer on either side
-unfoldable pub between : Float → Float → ℕ
+unfoldable pub between : (x y : Float) → ℕ
 between x y = toBits binary64 y - toBits binary64 x
 
 fewer-left : (x m y : ℕ) → x < m → m < y → (m - x < y - x) × (y - m < y - x)

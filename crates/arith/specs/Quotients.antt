@@ -2,7 +2,8 @@
 use mathlib.Core.Path.{_≡_, refl, sym, _∙_}
 use mathlib.Core.Bool.{Bool, true, false}
 use Prim.Native.Nat.{ℕ, zero, suc, _+_, _*_, _^_, _≤_, _<_}
-use native.Mathlib.Nat.{le-refl, le-of-lt, lt-of-le-of-lt, le-of-mul-le-mul-right, mul-le-mul-right, mul-right-comm, mul-comm, mul-pos, zero-mul, zero-lt-suc, pow-suc}
+use native.Mathlib.Nat.{le-refl, le-of-lt, lt-of-le-of-lt, le-of-mul-le-mul-right, mul-le-mul-right, mul-right-comm, mul-comm, mul-pos, zero-mul}
+use native.Mathlib.Nat.{zero-lt-suc, pow-suc}
 use native.Mathlib.Omega.{arith}
 use lib.Dec.{ltb, lit<, eqb·suc-zero}
 use lib.Pow.{pow-pos, pow-lt}
@@ -55,7 +56,7 @@ Size (fin true m e) = ⊥
 Size (fin false m e) = m ≡ m
 
 -- |x| ≤ |y|, of finite values
-abbrev pub Under : Float → Float → Type 0
+abbrev pub Under : (x y : Float) → Type 0
 Under x y = num x * den y ≤ num y * den x
 
 pub larger : (m x : Float) → Size m → isFinite x ≡ true → Size (max m (abs x)) × Under m (max m (abs x)) × Under x (max m (abs x))

@@ -31,16 +31,16 @@ unfoldable pub signum : Float → Float
 signum x = pick (isNan x) nan (pick (negative x) (fneg f1) f1)
 
 -- x held between lo and hi; NaN stays
-unfoldable pub clamp : Float → Float → Float → Float
+unfoldable pub clamp : (x lo hi : Float) → Float
 clamp x lo hi = pick (lt x lo) lo (pick (lt hi x) hi x)
 
 -- the larger and the smaller; of a NaN and another the other
-unfoldable pub max : Float → Float → Float
+unfoldable pub max : (a b : Float) → Float
 max a b = pick (isNan a) b (pick (lt a b) b a)
 
-unfoldable pub min : Float → Float → Float
+unfoldable pub min : (a b : Float) → Float
 min a b = pick (isNan a) b (pick (lt b a) b a)
 
 -- `total_cmp` finds a strictly before b: by value, -0 before +0, and NaN after all others
-unfoldable pub totalLess : Float → Float → Bool
+unfoldable pub totalLess : (a b : Float) → Bool
 totalLess a b = pick (isNan a) false (pick (isNan b) true (pick (lt a b) true (both (eq a b) (both (negative a) (not (negative b))))))

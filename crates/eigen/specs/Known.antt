@@ -10,7 +10,8 @@ use Rattle.arith.specs.Float.{f0, f1, fromℕ}
 use Rattle.arith.specs.Scalar.{abs, max, signum, negative, isFinite}
 use Rattle.vector.specs.Vector.{allFinite, amax, divided, norm, sumSquares}
 use Rattle.matrix.specs.Matrix.{identity, unit, mul as matrixMul, cellDot, trMul, columnsDot}
-use Rattle.eigen.specs.Eigen.{tangent, turnBy, angle, turnInRow, turnInColumn, turnColumns, turnRows, turned, rotate, sweepRow, sweep, offRow, offDiagonal, pass, sweeps, tolerance, rotated, mean, symmetric, start, values, jacobi, symmetricEigen, eigen}
+use Rattle.eigen.specs.Eigen.{tangent, turnBy, angle, turnInRow, turnInColumn, turnColumns, turnRows, turned, rotate, sweepRow, sweep, offRow}
+use Rattle.eigen.specs.Eigen.{offDiagonal, pass, sweeps, tolerance, rotated, mean, symmetric, start, values, jacobi, symmetricEigen, eigen}
 
 -- 1 / √2 in f64
 abbrev half : Float

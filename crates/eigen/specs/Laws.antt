@@ -16,7 +16,8 @@ use Rattle.vector.specs.Laws.{length-filled}
 use Rattle.matrix.specs.Matrix.{cell, identity}
 use Rattle.matrix.specs.Laws.{length-identity}
 use Rattle.eigen.specs.declared.Turn.{Turn}
-use Rattle.eigen.specs.Eigen.{State, turnInRow, turnColumns, rotate, sweepRow, sweep, pass, sweeps, Eigen, eigen, nothing, symmetric, values, answer, given, tolerance, start, jacobi, symmetricEigen, range, null}
+use Rattle.eigen.specs.Eigen.{State, turnInRow, turnColumns, rotate, sweepRow, sweep, pass, sweeps, Eigen, eigen, nothing, symmetric, values}
+use Rattle.eigen.specs.Eigen.{answer, given, tolerance, start, jacobi, symmetricEigen, range, null}
 
 pub length-symmetric : (n : ℕ) (r : List Float) → length (symmetric n r) ≡ n * n
 unfolding symmetric
@@ -75,7 +76,7 @@ run-square n tolerance (suc left) made (done o) e = e
 run-square n tolerance (suc left) made (more s) e = run-square n tolerance left (made + 1) (pass n tolerance s) (pass-square n tolerance s e)
 
 -- what fills the n and n * n elements of two lists
-abbrev pub Fills : ℕ → Eigen → Type 0
+abbrev pub Fills : (n : ℕ) → Eigen → Type 0
 Fills n (eigen l v) = (length l ≡ n) × (length v ≡ n * n)
 Fills n nothing = n ≡ n
 

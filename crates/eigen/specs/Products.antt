@@ -11,7 +11,7 @@ use Rattle.matrix.specs.Identity.{identity-mul, mul-identity}
 use Rattle.eigen.specs.Eigen.{rotated}
 
 -- the entries of a over the scale
-abbrev pub Finite : ℕ → List Float → Float → Type 0
+abbrev pub Finite : (n : ℕ) (a : List Float) (scale : Float) → Type 0
 Finite n a scale = allFinite (n * n) (divided (n * n) a scale) ≡ true
 
 pub finite : {b : Bool} {scale : Float} (n : ℕ) (a : List Float) → b ≡ allFinite (n * n) a → b ≡ true → scale ≡ amax (n * n) a → eq scale f0 ≡ false →

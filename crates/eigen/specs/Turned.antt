@@ -71,10 +71,10 @@ module _ (n : ℕ) (f h : ℕ → ℕ) (u w : Float → Float → Float) (a : Li
           }
 
 -- ---- x and y become c x - s y and s x + c y
-abbrev pub turnFirst : Turn → Float → Float → Float
+abbrev pub turnFirst : Turn → (x y : Float) → Float
 turnFirst t x y = fsub (fmul (t .c) x) (fmul (t .s) y)
 
-abbrev pub turnSecond : Turn → Float → Float → Float
+abbrev pub turnSecond : Turn → (x y : Float) → Float
 turnSecond t x y = fadd (fmul (t .s) x) (fmul (t .c) y)
 
 module _ (n p q : ℕ) (t : Turn) (a : List Float) (size : n * n ≤ length a) (P : p < n) (Q : q < n) (differ : p ≡ q → ⊥) where

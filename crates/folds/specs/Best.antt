@@ -13,7 +13,7 @@ pub data Best (A : Type 0) : Type 0 where
   nothing : Best A
   found : A → Best A
 
-unfoldable pub Has : {A : Type 0} → (A → Type 0) → Best A → Type 0
+unfoldable pub Has : {A : Type 0} (P : A → Type 0) → Best A → Type 0
 Has P nothing = Unit {0}
 Has P (found x) = P x
 
@@ -24,16 +24,16 @@ module _ {A : Type 0} (wins : A → A → Bool) where
   better nothing (found x) = found x
   better (found y) (found x) = pick (wins x y) (found x) (found y)
 
-  unfoldable pub bestOf : ℕ → (ℕ → Best A) → Best A
+  unfoldable pub bestOf : (n : ℕ) (f : ℕ → Best A) → Best A
   bestOf n f = fold n (λ k best. better best (f k)) nothing
 
 module _ {A : Type 0} (less : A → A → Bool) where
   -- `min_by` keeps the first of equals
-  unfoldable pub firstLeast : ℕ → (ℕ → Best A) → Best A
+  unfoldable pub firstLeast : (n : ℕ) (f : ℕ → Best A) → Best A
   firstLeast n f = bestOf less n f
 
   -- `max_by` keeps the last
-  unfoldable pub lastLargest : ℕ → (ℕ → Best A) → Best A
+  unfoldable pub lastLargest : (n : ℕ) (f : ℕ → Best A) → Best A
   lastLargest n f = bestOf (λ new old. not (less new old)) n f
 
 -- ---- a loop that holds the best so far

@@ -11,7 +11,7 @@ use lib.ListN.{length, set, take, drop, getD, length-append, List·getD-append}
 use lib.Seq.{drop-cons, set-at, getD-at, take-all, take-append-le, getD-take}
 use Rattle.folds.specs.Fold.{over, pick}
 
-unfoldable pub chosen : ℕ → (ℕ → Bool) → List ℕ
+unfoldable pub chosen : (n : ℕ) (p : ℕ → Bool) → List ℕ
 unfolding pick
 chosen zero p = []
 chosen (suc n) p = chosen n p ++ pick (p n) (n ∷ []) []
@@ -91,7 +91,7 @@ count-more i (suc n) p r h e f g =
 pub data Count : Type 0 where
   held : ℕ → List ℕ → Count
 
-unfoldable pub pushIf : Bool → ℕ → Count → Count
+unfoldable pub pushIf : (b : Bool) (k : ℕ) → Count → Count
 pushIf b k (held m l) = pick b (held (m + 1) (set l m k)) (held m l)
 
 pub chosen-step : {l t : List ℕ} {m r : ℕ} (k : ℕ) (p : ℕ → Bool) (o : List ℕ) →

@@ -13,7 +13,7 @@ use Rattle.folds.specs.Decide.{lt-or-le}
 use Rattle.folds.specs.Fold.{pick, pick-keep, some, some-stop, some-same, false-true, false-of}
 use Rattle.folds.specs.Chosen.{chosen, chosen-before, chosen-from, count-le}
 
-unfoldable pub position : ℕ → (ℕ → Bool) → ℕ
+unfoldable pub position : (n : ℕ) (p : ℕ → Bool) → ℕ
 position zero p = 0
 position (suc n) p = pick (some n p) (position n p) (pick (p n) n (suc n))
 
@@ -98,7 +98,7 @@ position-same (suc n) p q h =
     let f : (k : ℕ) → k < n → p k ≡ q k = λ k l. h k (omega arith) in rw (position-same n p q f, some-same n p q f, h n (omega arith))
 
 -- ---- `indices.partition_point(|&i| i < limit)`: where the first stands that is not below
-unfoldable pub partitionPoint : ℕ → List ℕ → ℕ
+unfoldable pub partitionPoint : (limit : ℕ) (l : List ℕ) → ℕ
 partitionPoint limit l = position (length l) (λ k. leb limit (getD l k 0))
 
 module _ (limit : ℕ) (l : List ℕ) where

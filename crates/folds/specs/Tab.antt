@@ -5,7 +5,8 @@ use Prim.Native.Nat.{ℕ, zero, suc, _+_, _-_, _*_, _<_, _≤_}
 use mathlib.Core.Logic.{⊎-elim}
 use native.Mathlib.Nat.{not-suc-le-zero, eq-or-lt-of-le, le-of-suc-le-suc, mul-zero, mul-suc, mul-comm, zero-mul, suc-mul}
 use native.Mathlib.Omega.{arith}
-use lib.ListN.{length, set, take, drop, getD, replicate, length-append, length-drop, length-replicate, getD-replicate, take-append-drop, List·getD-append}
+use lib.ListN.{length, set, take, drop, getD, replicate, length-append, length-drop, length-replicate, getD-replicate, take-append-drop}
+use lib.ListN.{List·getD-append}
 use lib.Seq.{drop-cons, set-at, take-at, drop-at, drop-drop, drop-length, length-take-le, getD-at, getD-append-add, getD-drop, getD-take, ext-getD}
 use Rattle.folds.specs.Fold.{fold, tab, tabM, over}
 use Rattle.folds.specs.Cell.{cell-lt}

@@ -8,7 +8,8 @@ use Rattle.folds.specs.Part.{part, withPart, onPart, withOut, onPartOut, two}
 use Rattle.root.specs.Root.{root}
 use Rattle.arith.specs.Float.{f0, f1, fneg, fromℕ}
 use Rattle.vector.specs.Vector.{dot, sumSquares, norm, subScaled}
-use Rattle.householder.specs.Householder.{factor, reflect, reflectColumns, zeroColumn, opposite, reflector, fromDiagonal, reflectRest, qrColumn, mark, qrStep, qr, qTrStep, qTrMul}
+use Rattle.householder.specs.Householder.{factor, reflect, reflectColumns, zeroColumn, opposite, reflector, fromDiagonal, reflectRest, qrColumn}
+use Rattle.householder.specs.Householder.{mark, qrStep, qr, qTrStep, qTrMul}
 
 -- (3, 4) has the norm 5 and the vector (8, 4), which takes (5, 5) to (-7, -1); then -1 has the vector -1 - 1
 of-qr : qr 2 2 (two (fromℕ 3 ∷ fromℕ 4 ∷ fromℕ 5 ∷ fromℕ 5 ∷ []) (false ∷ false ∷ []))

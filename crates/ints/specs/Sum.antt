@@ -14,7 +14,7 @@ use Rattle.folds.specs.Fold.{fold}
 use Rattle.ints.specs.Diff.{diff, split}
 use Rattle.ints.specs.Order.{≤-plus}
 
-unfoldable pub Σ : ℕ → (ℕ → ℤ) → ℤ
+unfoldable pub Σ : (n : ℕ) (f : ℕ → ℤ) → ℤ
 Σ n f = fold n (λ i s. s +ℤ f i) (pos 0)
 
 -- a turn of a loop
@@ -84,7 +84,7 @@ unfolding Σ fold
 Σ-swap (suc n) m f = ap (λ z. z +ℤ Σ m (λ j. f n j)) (Σ-swap n m f) ∙ sym (Σ-plus m (λ j. Σ n (λ i. f i j)) (λ j. f n j))
 
 -- Kronecker's delta, times c: c where j is i, 0 elsewhere; summed over i it is the c of j
-abbrev pub delta : ℕ → ℕ → ℤ → ℤ
+abbrev pub delta : (j i : ℕ) (c : ℤ) → ℤ
 delta j i c = cond (eqb j i) c (pos 0)
 
 pub delta-same : (j i : ℕ) (c : ℤ) → j ≡ i → delta j i c ≡ c

@@ -12,7 +12,7 @@ use Rattle.folds.specs.Fold.{fold}
 use Rattle.ints.specs.Sum.{Σ, delta}
 use Rattle.ints.specs.Bound.{_≼_, _+b_}
 
-unfoldable pub Σℕ : ℕ → (ℕ → ℕ) → ℕ
+unfoldable pub Σℕ : (n : ℕ) (a : ℕ → ℕ) → ℕ
 Σℕ n a = fold n (λ i s. s + a i) 0
 
 pub Σ-under : (n : ℕ) (f : ℕ → ℤ) (a : ℕ → ℕ) → ((i : ℕ) → i < n → f i ≼ a i) → Σ n f ≼ Σℕ n a
@@ -77,7 +77,7 @@ unfolding Σℕ fold
     mul-nothing m = omega arith
 Σℕ-swap (suc n) m a = ap (λ (z : ℕ). z + Σℕ m (λ j. a n j)) (Σℕ-swap n m a) ∙ sym (Σℕ-plus m (λ j. Σℕ n (λ i. a i j)) (λ j. a n j))
 
-abbrev pub deltaℕ : ℕ → ℕ → ℕ → ℕ
+abbrev pub deltaℕ : (j i c : ℕ) → ℕ
 deltaℕ j i c = cond (eqb j i) c 0
 
 pub delta-under : (j i : ℕ) (c : ℤ) → delta j i c ≼ deltaℕ j i (natAbs c)

@@ -1,4 +1,4 @@
--- Laws of the definitions: how long each list is, what stands at each place, that only the n * m elements count, and a matrix written column by column.
+-- Laws of the definitions: how long each list is, what stands at each place, that only the n * m elements count, a matrix written column by column.
 use mathlib.Core.Path.{_≡_, refl, sym, ap, _∙_}
 use mathlib.Core.List.{List}
 use mathlib.Core.Logic.{⊎-elim}
@@ -11,14 +11,17 @@ use lib.ListN.{length, take, drop, set, getD, length-set}
 use lib.Seq.{getD-set-same, getD-set-other}
 use lib.Ieee.{Float, nan}
 use Rattle.folds.specs.Fold.{fold, folds, fold-call, fold-turn, fold-end, fold-keep, fold-same, tabM, over, pick}
-use Rattle.folds.specs.Tab.{length-tab, length-tabM, getD-tab, getD-tabM, tab-same, tabM-same, tabM-flat, tab-all, over-all, over-in, over-tabM, part-tab}
+use Rattle.folds.specs.Tab.{length-tab, length-tabM, getD-tab, getD-tabM, tab-same, tabM-same, tabM-flat, tab-all, over-all, over-in, over-tabM}
+use Rattle.folds.specs.Tab.{part-tab}
 use Rattle.folds.specs.Cell.{cell-lt}
 use Rattle.folds.specs.Decide.{lt-or-le}
 use Rattle.arith.specs.Float.{fmul, fdiv, f0, f1, at}
 use Rattle.arith.specs.Neutral.{sum-same}
 use Rattle.vector.specs.Vector.{Below, dot, amax}
 use Rattle.vector.specs.Laws.{Same, dot-sum}
-use Rattle.matrix.specs.Matrix.{cell, put, column, diagonal, trace, rowDot, mulVec, columnDot, trMulVec, cellDot, mul, columnsDot, trMul, transpose, unit, identity, index, selectRows, selectColumns, rowsDivided, columnsDivided, columnsAmax, putColumn}
+use Rattle.matrix.specs.Matrix.{cell, put, column, diagonal, trace, rowDot, mulVec, columnDot, trMulVec, cellDot, mul, columnsDot, trMul}
+use Rattle.matrix.specs.Matrix.{transpose, unit, identity, index, selectRows, selectColumns, rowsDivided, columnsDivided, columnsAmax}
+use Rattle.matrix.specs.Matrix.{putColumn}
 
 -- ---- lengths
 module _ (n : ℕ) where

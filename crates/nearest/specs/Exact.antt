@@ -5,7 +5,8 @@ use mathlib.Core.Path.{_≡_, refl, sym, ap, ap₂, _∙_, subst}
 use mathlib.Core.Logic.{_⊎_, inl, inr, ⊎-elim}
 use mathlib.Core.Bool.{Bool, true, false, not, _&&_, Bool·beq, cond, true≢false}
 use Prim.Native.Nat.{ℕ, zero, suc, _+_, _-_, _*_, _^_, _≤_, _<_}
-use native.Mathlib.Nat.{mul-assoc, mul-comm, mul-one, add-mul, mul-sub, mul-pos, mul-mul-mul-comm, mul-le-mul-right, le-trans, le-of-lt, not-suc-le-zero}
+use native.Mathlib.Nat.{mul-assoc, mul-comm, mul-one, add-mul, mul-sub, mul-pos, mul-mul-mul-comm, mul-le-mul-right, le-trans, le-of-lt}
+use native.Mathlib.Nat.{not-suc-le-zero}
 use native.Mathlib.Numerals.{add-one}
 use native.Mathlib.Omega.{arith}
 use borrow.Author.Tests.{ltb-true, ltb-false}
@@ -86,7 +87,13 @@ summed true false p q = go (ltb p q) refl (ltb q p) refl
         record { sign = false; size = q - p; rounds = rw e; is = is-sum true false false p q (q - p) (omega arith); zero = λ k. inl refl }
     go false e true f =
         let h = ltb-true q p f in
-        record { sign = true; size = p - q; rounds = rw (e, f); is = is-sum true false true p q (p - q) (omega arith); zero = λ k. absurd (omega arith) }
+        record {
+          sign = true;
+          size = p - q;
+          rounds = rw (e, f);
+          is = is-sum true false true p q (p - q) (omega arith);
+          zero = λ k. absurd (omega arith);
+        }
     go false e false f =
         let h = ltb-false p q e in
         let i = ltb-false q p f in

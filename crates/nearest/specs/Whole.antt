@@ -4,7 +4,8 @@
 use mathlib.Core.Path.{_≡_, refl, ap, _∙_, subst}
 use mathlib.Core.Bool.{Bool, true, false, cond}
 use Prim.Native.Nat.{ℕ, suc, _+_, _*_, _%_, _≤_, _<_}
-use native.Mathlib.Nat.{div-add-mod', mod-lt, mul-le-mul-right, mul-pos, eq-of-mul-eq-mul-right, suc-mul, add-mul, le-of-suc-le-suc, lt-of-mul-lt-mul-right}
+use native.Mathlib.Nat.{div-add-mod', mod-lt, mul-le-mul-right, mul-pos, eq-of-mul-eq-mul-right, suc-mul, add-mul, le-of-suc-le-suc}
+use native.Mathlib.Nat.{lt-of-mul-lt-mul-right}
 use native.Mathlib.Omega.{arith}
 use lib.Dec.{eqb, le→leb}
 use borrow.Author.Tests.{eqb-true, eqb-false}
@@ -15,22 +16,22 @@ use Rattle.ints.specs.Diff.{diff, split, ltZ-true, ltZ-false}
 -- ---- definitions
 
 -- ⌊v / u⌋
-abbrev pub floor : ℤ → ℕ → ℤ
+abbrev pub floor : (v : ℤ) (u : ℕ) → ℤ
 floor v u = shrZ v u
 
 -- the nearest whole number, a half down
-unfoldable pub earlier : ℤ → ℕ → ℤ
+unfoldable pub earlier : (v : ℤ) (u : ℕ) → ℤ
 earlier v u = negℤ (floor (pos u -ℤ pos 2 *ℤ v) (2 * u))
 
 -- a half up
-unfoldable pub later : ℤ → ℕ → ℤ
+unfoldable pub later : (v : ℤ) (u : ℕ) → ℤ
 later v u = floor (pos 2 *ℤ v +ℤ pos u) (2 * u)
 
 abbrev pub isEven : ℤ → Bool
 isEven z = eqb (natAbs z % 2) 0
 
 -- a half to the even one
-unfoldable pub even : ℤ → ℕ → ℤ
+unfoldable pub even : (v : ℤ) (u : ℕ) → ℤ
 unfolding earlier later
 even v u = cond (isEven (earlier v u)) (earlier v u) (later v u)
 
@@ -75,10 +76,10 @@ pub record Near (v : ℤ) (u : ℕ) (r : ℤ) : Type 0 where
   pub high : (pos 2 *ℤ (r *ℤ pos u)) ≤ℤ (pos 2 *ℤ v +ℤ pos u)
 
 -- v / u is the half below r, and the half above it
-abbrev pub Under : ℤ → ℕ → ℤ → Type 0
+abbrev pub Under : (v : ℤ) (u : ℕ) (r : ℤ) → Type 0
 Under v u r = pos 2 *ℤ (r *ℤ pos u) ≡ pos 2 *ℤ v +ℤ pos u
 
-abbrev pub Over : ℤ → ℕ → ℤ → Type 0
+abbrev pub Over : (v : ℤ) (u : ℕ) (r : ℤ) → Type 0
 Over v u r = pos 2 *ℤ v ≡ pos 2 *ℤ (r *ℤ pos u) +ℤ pos u
 
 -- and at a half it is the lower, the upper, or the even one

@@ -6,7 +6,8 @@ use lib.Ieee.{Float, binary64, add, sub, mul, div, eq, lt, le, ofInt, ofBits}
 use Rattle.folds.specs.Fold.{fold, span, walk, pick, all, out}
 use Rattle.root.specs.Root.{root}
 use Rattle.arith.specs.Float.{f0, f1, fromℕ}
-use Rattle.triangular.specs.Triangular.{rowsDot, underRoot, factorEntry, factorBelow, factorColumn, cholesky, positiveDefinite, regular, known, unknown, forward, solveLower, solveLowerColumns, knownBelow, unknownBack, backward, trSolveLower, solve}
+use Rattle.triangular.specs.Triangular.{rowsDot, underRoot, factorEntry, factorBelow, factorColumn, cholesky, positiveDefinite, regular, known}
+use Rattle.triangular.specs.Triangular.{unknown, forward, solveLower, solveLowerColumns, knownBelow, unknownBack, backward, trSolveLower, solve}
 
 -- (4 2; 2 5) is (2 0; 1 2) times its transpose; the entry above the diagonal is not read and keeps its value
 abbrev factor : List Float

@@ -17,7 +17,8 @@ use Rattle.arith.specs.Neutral.{sum-same}
 use Rattle.vector.specs.Laws.{Same}
 use Rattle.matrix.specs.Matrix.{cell, put}
 use Rattle.matrix.specs.Laws.{put-same, put-row, put-column}
-use Rattle.triangular.specs.Triangular.{rowsDot, underRoot, factorEntry, factorBelow, factorColumn, cholesky, positiveDefinite, regular, known, unknown, forward, knownBelow, unknownBack, backward, solve}
+use Rattle.triangular.specs.Triangular.{rowsDot, underRoot, factorEntry, factorBelow, factorColumn, cholesky, positiveDefinite, regular, known}
+use Rattle.triangular.specs.Triangular.{unknown, forward, knownBelow, unknownBack, backward, solve}
 
 -- ---- lengths
 pub length-forward : (k : ℕ) (l : List Float) (n : ℕ) (x : List Float) → length (forward k l n x) ≡ length x
@@ -44,7 +45,7 @@ unfolding knownBelow
 below-same k l n i x y e = span-same (i + 1) k _ _ f0 (λ j s p q. rw (e j p q))
 
 -- ---- only the lower triangle counts
-abbrev pub Lower : ℕ → List Float → List Float → Type 0
+abbrev pub Lower : (n : ℕ) (a b : List Float) → Type 0
 Lower n a b = (i j : ℕ) → j ≤ i → i < n → cell a n i j ≡ cell b n i j
 
 module _ (n : ℕ) (a b : List Float) (e : Lower n a b) where

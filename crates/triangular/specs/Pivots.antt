@@ -62,7 +62,7 @@ pivot-not-zero (fin s (suc m) e) h =
 abbrev pub Sound : Float → Type 0
 Sound d = (d ≡ nan) ⊎ (le pivotFloor (fmul d d) ≡ true)
 
-abbrev pub Sounds : ℕ → List Float → Type 0
+abbrev pub Sounds : (n : ℕ) (l : List Float) → Type 0
 Sounds n l = (i : ℕ) → i < n → Sound (cell l n i i)
 
 pub sound-not-zero : (d : Float) → Sound d → eq d f0 ≡ false

@@ -1,4 +1,4 @@
--- The Cholesky factor and triangular systems, in the order of document 01: every sum starts at +0, rises with its index and is formed before it is taken off.
+-- The Cholesky factor and triangular systems, as document 01, "The reference build", has them: "A sum taken off an entry is formed first."
 -- A matrix of n rows is its columns one after the other; only the lower triangle counts, and every other entry keeps its value.
 use Prim.Native.Nat.{ℕ, _+_, _-_, _*_}
 use mathlib.Core.Bool.{Bool, true, false, not}
@@ -10,85 +10,85 @@ use Rattle.folds.specs.Part.{onPartOut}
 use Rattle.arith.specs.Float.{fadd, fsub, fmul, fdiv, f0, at, sum, sqrt}
 use Rattle.matrix.specs.Matrix.{cell, put}
 
--- ---- the factor, column by column from the lower triangle
+-- ---- "Cholesky: column by column, from the lower triangle"
 
 -- the first k terms of row i times row j
-unfoldable pub rowsDot : ℕ → List Float → ℕ → ℕ → ℕ → Float
+unfoldable pub rowsDot : (k : ℕ) (a : List Float) (n i j : ℕ) → Float
 rowsDot k a n i j = sum k (λ t. fmul (cell a n i t) (cell a n j t))
 
 -- the value under the root of column j
-unfoldable pub underRoot : ℕ → ℕ → List Float → Float
+unfoldable pub underRoot : (n j : ℕ) (a : List Float) → Float
 underRoot n j a = fsub (cell a n j j) (rowsDot j a n j j)
 
 -- the entry at row i below the diagonal entry r of column j
-unfoldable pub factorEntry : ℕ → ℕ → Float → ℕ → List Float → List Float
+unfoldable pub factorEntry : (n j : ℕ) (r : Float) (i : ℕ) (a : List Float) → List Float
 factorEntry n j r i a = put a n i j (fdiv (fsub (cell a n i j) (rowsDot j a n i j)) r)
 
 -- column j with the diagonal entry r
-unfoldable pub factorBelow : ℕ → ℕ → Float → List Float → List Float
+unfoldable pub factorBelow : (n j : ℕ) (r : Float) (a : List Float) → List Float
 factorBelow n j r a = span (j + 1) n (factorEntry n j r) (put a n j j r)
 
--- column j: a value under the root that is NaN or not above 0 is a failure
-unfoldable pub factorColumn : ℕ → ℕ → List Float → Out (List Float)
+-- column j: "a value under the root that is NaN or not above 0 is a failure"
+unfoldable pub factorColumn : (n j : ℕ) (a : List Float) → Out (List Float)
 factorColumn n j a = pick (lt f0 (underRoot n j a)) (out true (factorBelow n j (sqrt (underRoot n j a)) a)) (out false a)
 
 -- whether a (n by n) has a factor, and what the list then holds; after a failure, the columns before it
-unfoldable pub cholesky : ℕ → List Float → Out (List Float)
+unfoldable pub cholesky : (n : ℕ) (a : List Float) → Out (List Float)
 cholesky n a = walk n (factorColumn n) a
 
--- PIVOT_FLOOR, 1 / 67108864
+-- `const PIVOT_FLOOR: f64 = 1.0 / 67_108_864.0`
 abbrev pub pivotFloor : Float
 pivotFloor = ofBits binary64 0x3e50_0000_0000_0000
 
--- every pivot p of the factor l has p p at least the floor; a NaN has not
-unfoldable pub positiveDefinite : List Float → ℕ → Bool
+-- `.all(|&p| p * p >= PIVOT_FLOOR)`; a NaN is not
+unfoldable pub positiveDefinite : (l : List Float) (n : ℕ) → Bool
 positiveDefinite l n = all n (λ i. le pivotFloor (fmul (cell l n i i) (cell l n i i)))
 
--- ---- triangular systems: each unknown is (right side - the sum over those known) / diagonal; a diagonal of 0 gives nothing
+-- ---- "A triangular system: each unknown is (right side − the sum over those known) / diagonal; a diagonal of 0 gives nothing."
 
 -- no diagonal entry is 0
-unfoldable pub regular : List Float → ℕ → Bool
+unfoldable pub regular : (l : List Float) (n : ℕ) → Bool
 regular l n = all n (λ i. not (eq (cell l n i i) f0))
 
 -- the sum over j < k of l i j times x j
-unfoldable pub known : ℕ → List Float → ℕ → ℕ → List Float → Float
+unfoldable pub known : (k : ℕ) (l : List Float) (n i : ℕ) (x : List Float) → Float
 known k l n i x = sum k (λ j. fmul (cell l n i j) (at x j))
 
 -- the i-th unknown of l y = x, with those before it known
-unfoldable pub unknown : List Float → ℕ → ℕ → List Float → List Float
+unfoldable pub unknown : (l : List Float) (n i : ℕ) (x : List Float) → List Float
 unknown l n i x = set x i (fdiv (fsub (at x i) (known i l n i x)) (cell l n i i))
 
 -- the first k unknowns of l y = x
-unfoldable pub forward : ℕ → List Float → ℕ → List Float → List Float
+unfoldable pub forward : (k : ℕ) (l : List Float) (n : ℕ) (x : List Float) → List Float
 forward k l n x = fold k (unknown l n) x
 
 -- y with l y = x, where there is one
-unfoldable pub solveLower : List Float → ℕ → List Float → Out (List Float)
+unfoldable pub solveLower : (l : List Float) (n : ℕ) (x : List Float) → Out (List Float)
 solveLower l n x = pick (regular l n) (out true (forward n l n x)) (out false x)
 
--- the same for the m columns of x; no column is solved, emptily
-unfoldable pub solveColumn : List Float → ℕ → ℕ → List Float → Out (List Float)
+-- the same for the m columns of x; with no column there is nothing to solve, and no diagonal is looked at
+unfoldable pub solveColumn : (l : List Float) (n j : ℕ) (x : List Float) → Out (List Float)
 solveColumn l n j x = onPartOut (j * n) (j * n + n) (solveLower l n) x
 
-unfoldable pub solveLowerColumns : List Float → ℕ → ℕ → List Float → Out (List Float)
+unfoldable pub solveLowerColumns : (l : List Float) (n m : ℕ) (x : List Float) → Out (List Float)
 solveLowerColumns l n m x = walk m (solveColumn l n) x
 
 -- the sum over j from i + 1 to k - 1 of l j i times x j
-unfoldable pub knownBelow : ℕ → List Float → ℕ → ℕ → List Float → Float
+unfoldable pub knownBelow : (k : ℕ) (l : List Float) (n i : ℕ) (x : List Float) → Float
 knownBelow k l n i x = span (i + 1) k (λ j s. fadd s (fmul (cell l n j i) (at x j))) f0
 
 -- the i-th unknown of (l transposed) y = x, with those after it known
-unfoldable pub unknownBack : List Float → ℕ → ℕ → List Float → List Float
+unfoldable pub unknownBack : (l : List Float) (n i : ℕ) (x : List Float) → List Float
 unknownBack l n i x = set x i (fdiv (fsub (at x i) (knownBelow n l n i x)) (cell l n i i))
 
 -- all of them, the last first
-unfoldable pub backward : List Float → ℕ → List Float → List Float
+unfoldable pub backward : (l : List Float) (n : ℕ) (x : List Float) → List Float
 backward l n x = fold n (λ t. unknownBack l n (n - 1 - t)) x
 
 -- y with (l transposed) y = x, where there is one
-unfoldable pub trSolveLower : List Float → ℕ → List Float → Out (List Float)
+unfoldable pub trSolveLower : (l : List Float) (n : ℕ) (x : List Float) → Out (List Float)
 trSolveLower l n x = pick (regular l n) (out true (backward l n x)) (out false x)
 
 -- y with l (l transposed) y = x, for a factor l
-unfoldable pub solve : List Float → ℕ → List Float → List Float
+unfoldable pub solve : (l : List Float) (n : ℕ) (x : List Float) → List Float
 solve l n x = backward l n (forward n l n x)

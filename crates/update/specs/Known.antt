@@ -8,7 +8,8 @@ use Rattle.root.specs.Root.{root}
 use Rattle.arith.specs.Float.{f1, fromℕ}
 use Rattle.vector.specs.Vector.{sumSquares, copy}
 use Rattle.triangular.specs.Triangular.{forward, unknown, known}
-use Rattle.update.specs.Update.{rankRow, rankRows, newDiagonal, rankColumn, rankOne, staying, closedEntry, closed, removedEntry, removed, leave, removeColumn, joinDiagonal, joinBelow, joining, standing, joinedEntry, joined, join, insertColumn}
+use Rattle.update.specs.Update.{rankRow, rankRows, newDiagonal, rankColumn, rankOne, staying, closedEntry, closed, removedEntry, removed, leave}
+use Rattle.update.specs.Update.{removeColumn, joinDiagonal, joinBelow, joining, standing, joinedEntry, joined, join, insertColumn}
 
 -- column 0: r = 5, c = 5/4, t = 3/4, then L = (4 + 6) / c = 8 and v = 10 - 6; column 1: r = 5
 of-rank-one : rankOne 2 0 f1 (two (fromℕ 4 ∷ fromℕ 4 ∷ fromℕ 9 ∷ fromℕ 3 ∷ []) (fromℕ 3 ∷ fromℕ 8 ∷ []))

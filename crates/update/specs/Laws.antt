@@ -24,7 +24,7 @@ abbrev pub vectorOf : Pair → List Float
 vectorOf (two l v) = v
 
 -- long enough for n variables
-abbrev pub Wide : ℕ → Pair → Type 0
+abbrev pub Wide : (n : ℕ) → Pair → Type 0
 Wide n x = (n * n ≤ length (factorOf x)) × (n ≤ length (vectorOf x))
 
 -- ---- the rows of column j to row m
@@ -124,7 +124,7 @@ rankColumn-at n s j (two l v) q (h, k) =
     }
 
 -- ---- the whole step: l and v as column j finds them, where columns p to j - 1 are changed
-abbrev pub found : ℕ → ℕ → Float → Pair → ℕ → Pair
+abbrev pub found : (n p : ℕ) (s : Float) → Pair → (j : ℕ) → Pair
 found n p s x j = span p j (rankColumn n s) x
 
 -- column j of the result is made from x's column j and the v that column j finds; the columns below p, and what lies above the diagonal, are x's

@@ -18,7 +18,8 @@ use Rattle.matrix.specs.Matrix.{cell, put}
 use Rattle.matrix.specs.Laws.{cell-over, cell-tabM, place-same, put-row}
 use Rattle.triangular.specs.Triangular.{positiveDefinite, regular}
 use Rattle.triangular.specs.Pivots.{Sound, Sounds, sound-root, sounds-regular, definite-sounds}
-use Rattle.update.specs.Update.{rankRow, rankRows, newDiagonal, rankColumn, rankOne, factorOf, staying, closedEntry, closed, removed, leave, removeColumn}
+use Rattle.update.specs.Update.{rankRow, rankRows, newDiagonal, rankColumn, rankOne, factorOf, staying, closedEntry, closed, removed, leave}
+use Rattle.update.specs.Update.{removeColumn}
 
 -- ---- the rank-one step of a variable that leaves
 abbrev Sound-two : ℕ → Two (List Float) (List Float) → Type 0

@@ -24,7 +24,9 @@ use Rattle.matrix.specs.Matrix.{cell, put}
 use Rattle.matrix.specs.Laws.{cell-over, cell-tabM, put-same, put-row, put-column}
 use Rattle.triangular.specs.Triangular.{forward}
 use Rattle.triangular.specs.Laws.{Lower, length-forward, known-lower, forward-lower}
-use Rattle.update.specs.Update.{rankRow, rankRows, newDiagonal, rankColumn, rankOne, factorOf, staying, closedEntry, closed, removedEntry, removed, leave, removeColumn, joinDiagonal, joinBelow, joining, standing, joinedEntry, joined, join, insertColumn}
+use Rattle.update.specs.Update.{rankRow, rankRows, newDiagonal, rankColumn, rankOne, factorOf, staying, closedEntry, closed, removedEntry}
+use Rattle.update.specs.Update.{removed, leave, removeColumn, joinDiagonal, joinBelow, joining, standing, joinedEntry, joined, join}
+use Rattle.update.specs.Update.{insertColumn}
 use Rattle.update.specs.Laws.{Pair, vectorOf, Wide}
 
 -- ---- the rank-one step
@@ -219,7 +221,8 @@ module _ (n p : ℕ) (a b : List Float) (h : p ≤ n) (e : Lower n a b) where
       one-alike k (p + 1) (fneg f1) (two (over (tabM k k f) o) x) (two (over (tabM k k g) r) y)
       (record {
         lower = λ i j s t. let w : j < k = omega arith in
-            cell-over k k i j t w (tabM k k f) o (c f) ∙ cell-tabM k k i j t w f ∙ entry-joined x i j s t ∙ ap (λ (l : List Float). joinedEntry n p b l i j) z
+            cell-over k k i j t w (tabM k k f) o (c f) ∙ cell-tabM k k i j t w f ∙ entry-joined x i j s t
+            ∙ ap (λ (l : List Float). joinedEntry n p b l i j) z
             ∙ sym (cell-over k k i j t w (tabM k k g) r (c g) ∙ cell-tabM k k i j t w g);
         vector = λ i s. ap (λ (l : List Float). at l i) z;
         wide = (rw (length-over (tabM k k f) o (rw (m f) u)) u, long a);

@@ -14,24 +14,24 @@ use Rattle.triangular.specs.Triangular.{forward, known}
 
 -- ---- the rank-one step, sign s and vector v, on the rows from p on of the factor l of n variables; v is used up
 
--- row i below the diagonal of column j: L_ij = (L_ij + s t v_i) / c, then v_i = c v_i - t L_ij with the new L_ij
-unfoldable pub rankRow : ℕ → ℕ → Float → Float → Float → ℕ → Two (List Float) (List Float) → Two (List Float) (List Float)
+-- "for each i below j L_ij = (L_ij + s·t·v_i)/c, then v_i = c·v_i − t·L_ij with the new L_ij"
+unfoldable pub rankRow : (n j : ℕ) (s t c : Float) (i : ℕ) → Two (List Float) (List Float) → Two (List Float) (List Float)
 rankRow n j s t c i (two l v) =
     let x = fdiv (fadd (cell l n i j) (fmul (fmul s t) (at v i))) c in two (put l n i j x) (set v i (fsub (fmul c (at v i)) (fmul t x)))
 
-unfoldable pub rankRows : ℕ → ℕ → Float → Float → Float → Two (List Float) (List Float) → Two (List Float) (List Float)
+unfoldable pub rankRows : (n j : ℕ) (s t c : Float) → Two (List Float) (List Float) → Two (List Float) (List Float)
 rankRows n j s t c x = span (j + 1) n (rankRow n j s t c) x
 
--- r = root(d d + s v_j v_j), with d the diagonal entry
-unfoldable pub newDiagonal : ℕ → ℕ → Float → List Float → List Float → Float
+-- "r = root(d·d + s·v_j·v_j) with d the diagonal entry"
+unfoldable pub newDiagonal : (n j : ℕ) (s : Float) (l v : List Float) → Float
 newDiagonal n j s l v = sqrt (fadd (fmul (cell l n j j) (cell l n j j)) (fmul (fmul s (at v j)) (at v j)))
 
--- column j: the diagonal becomes r, and the rows below change with t = v_j / d and c = r / d
-unfoldable pub rankColumn : ℕ → Float → ℕ → Two (List Float) (List Float) → Two (List Float) (List Float)
+-- column j: "c = r/d, t = v_j/d; the diagonal becomes r", and the rows below change
+unfoldable pub rankColumn : (n : ℕ) (s : Float) (j : ℕ) → Two (List Float) (List Float) → Two (List Float) (List Float)
 rankColumn n s j (two l v) =
     let d = cell l n j j in let r = newDiagonal n j s l v in rankRows n j s (fdiv (at v j) d) (fdiv r d) (two (put l n j j r) v)
 
-unfoldable pub rankOne : ℕ → ℕ → Float → Two (List Float) (List Float) → Two (List Float) (List Float)
+unfoldable pub rankOne : (n p : ℕ) (s : Float) → Two (List Float) (List Float) → Two (List Float) (List Float)
 rankOne n p s x = span p n (rankColumn n s) x
 
 abbrev pub factorOf : Two (List Float) (List Float) → List Float
@@ -40,60 +40,60 @@ factorOf (two l v) = l
 -- ---- leaving: p of n + 1 variables
 
 -- where the i-th of those that stay stood
-unfoldable pub staying : ℕ → ℕ → ℕ
+unfoldable pub staying : (p i : ℕ) → ℕ
 staying p i = pick (ltb i p) i (i + 1)
 
 -- the rows and columns close up
-unfoldable pub closedEntry : ℕ → ℕ → List Float → ℕ → ℕ → Float
+unfoldable pub closedEntry : (n p : ℕ) (l : List Float) (i j : ℕ) → Float
 closedEntry n p l i j = cell l (n + 1) (staying p i) (staying p j)
 
-unfoldable pub closed : ℕ → ℕ → List Float → List Float
+unfoldable pub closed : (n p : ℕ) (l : List Float) → List Float
 closed n p l = tabM n n (closedEntry n p l)
 
--- v: the removed column below its diagonal, from row p on
-unfoldable pub removedEntry : ℕ → ℕ → List Float → ℕ → Float
+-- "Leaving: v is the removed column below its diagonal, s = +1": from row p on
+unfoldable pub removedEntry : (n p : ℕ) (l : List Float) (i : ℕ) → Float
 removedEntry n p l i = pick (ltb i p) f0 (cell l (n + 1) (i + 1) p)
 
-unfoldable pub removed : ℕ → ℕ → List Float → List Float
+unfoldable pub removed : (n p : ℕ) (l : List Float) → List Float
 removed n p l = tab n (removedEntry n p l)
 
 -- the factor of the n that stay, written over the start of o
-unfoldable pub leave : ℕ → ℕ → List Float → List Float → List Float
+unfoldable pub leave : (n p : ℕ) (l o : List Float) → List Float
 leave n p l o = factorOf (rankOne n p f1 (two (over (closed n p l) o) (removed n p l)))
 
 -- `remove_column`: p of k variables leaves
-unfoldable pub removeColumn : ℕ → ℕ → List Float → List Float
+unfoldable pub removeColumn : (k p : ℕ) (l : List Float) → List Float
 removeColumn k p l = leave (k - 1) p l l
 
 -- ---- joining: at place p of n + 1 variables, with q the new variable's column of the matrix
 
--- the new row's diagonal, root(q_p - w w), with w in the first p elements of x
-unfoldable pub joinDiagonal : ℕ → List Float → List Float
+-- "its diagonal is root(q_ii − w·w)", with w in the first p elements of x
+unfoldable pub joinDiagonal : (p : ℕ) (x : List Float) → List Float
 joinDiagonal p x = set x p (sqrt (fsub (at x p) (sumSquares p x)))
 
--- the column below, (q - rows w) over that diagonal
-unfoldable pub joinBelow : ℕ → ℕ → List Float → ℕ → List Float → List Float
+-- "the column below is (q − rows·w) over that diagonal"
+unfoldable pub joinBelow : (n p : ℕ) (l : List Float) (i : ℕ) (x : List Float) → List Float
 joinBelow n p l i x = set x i (fdiv (fsub (at x i) (known p l n (i - 1) x)) (at x p))
 
--- the new row w from the triangular system, then its diagonal, then the column below, in one list
-unfoldable pub joining : ℕ → ℕ → List Float → List Float → List Float
+-- "the new row w comes from the triangular system", then its diagonal, then the column below, in one list
+unfoldable pub joining : (n p : ℕ) (l q : List Float) → List Float
 joining n p l q = span (p + 1) (n + 1) (joinBelow n p l) (joinDiagonal p (forward p l n q))
 
 -- where the i-th of n + 1 stood among n, for i other than p
-unfoldable pub standing : ℕ → ℕ → ℕ
+unfoldable pub standing : (p i : ℕ) → ℕ
 standing p i = pick (ltb p i) (i - 1) i
 
 -- the new row and column p among the others
-unfoldable pub joinedEntry : ℕ → ℕ → List Float → List Float → ℕ → ℕ → Float
+unfoldable pub joinedEntry : (n p : ℕ) (l x : List Float) (i j : ℕ) → Float
 joinedEntry n p l x i j = pick (eqb i p) (at x j) (pick (eqb j p) (at x i) (cell l n (standing p i) (standing p j)))
 
-unfoldable pub joined : ℕ → ℕ → List Float → List Float → List Float
+unfoldable pub joined : (n p : ℕ) (l x : List Float) → List Float
 joined n p l x = tabM (n + 1) (n + 1) (joinedEntry n p l x)
 
--- the factor of all n + 1, written over the start of o
-unfoldable pub join : ℕ → ℕ → List Float → List Float → List Float → List Float
+-- "then v is that column and s = −1": the factor of all n + 1, written over the start of o
+unfoldable pub join : (n p : ℕ) (q l o : List Float) → List Float
 join n p q l o = let x = joining n p l (copy (n + 1) q) in factorOf (rankOne (n + 1) (p + 1) (fneg f1) (two (over (joined n p l x) o) x))
 
 -- `insert_column`: a variable joins n others at place p
-unfoldable pub insertColumn : ℕ → ℕ → List Float → List Float → List Float
+unfoldable pub insertColumn : (n p : ℕ) (q l : List Float) → List Float
 insertColumn n p q l = join n p q l l

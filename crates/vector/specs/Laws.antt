@@ -17,7 +17,8 @@ use Rattle.arith.specs.Float.{fadd, fsub, fmul, fdiv, f0, at, sum}
 use Rattle.arith.specs.Scalar.{abs, max, isFinite}
 use Rattle.arith.specs.Neutral.{Held, sum-same, zero-is, plus, plus-held, plus-add, add-zero}
 use Rattle.arith.specs.Quotients.{Size, Under, larger, quotient}
-use Rattle.vector.specs.Vector.{dot, sumSquares, norm, amax, anyNan, allFinite, quotientSquares, scaledNorm, total, totalAbs, scaled, divided, add, sub, mul, div, addScaled, subScaled, addScalar, copy, filled, select}
+use Rattle.vector.specs.Vector.{dot, sumSquares, norm, amax, anyNan, allFinite, quotientSquares, scaledNorm, total, totalAbs, scaled, divided}
+use Rattle.vector.specs.Vector.{add, sub, mul, div, addScaled, subScaled, addScalar, copy, filled, select}
 
 -- ---- lengths
 module _ (n : ℕ) where
@@ -150,7 +151,7 @@ pub replicate-filled : (n : ℕ) (v : Float) → replicate n v ≡ filled n v
 replicate-filled n v = sym (take-all n (replicate n v) (rw (length-replicate n v) (le-refl n))) ∙ take-filled n n v (le-refl n)
 
 -- ---- only the first n elements count
-abbrev pub Same : ℕ → List Float → List Float → Type 0
+abbrev pub Same : (n : ℕ) (a b : List Float) → Type 0
 Same n a b = (k : ℕ) → k < n → at a k ≡ at b k
 
 pub same-take : (n : ℕ) (a : List Float) → Same n (take n a) a
@@ -291,7 +292,7 @@ quotients-finite n a h z =
     finite-all n (divided n a l) (λ k i. rw (divided-at n k i a l) (quotient (at a k) l (f k i) (u .0) z (u .1 k i)))
 
 -- ---- adding 0 to finite values of f64
-abbrev pub Holding : ℕ → List Float → Type 0
+abbrev pub Holding : (n : ℕ) (a : List Float) → Type 0
 Holding n a = (k : ℕ) → k < n → Held (at a k)
 
 module _ (n : ℕ) (a : List Float) (h : Holding n a) where
