@@ -1,4 +1,4 @@
-// The body of each field: its verdict, and what it holds.
+// The body of each field: its verdict, and what it holds. The definitions are format's specs/Read.antt.
 ghost use mathlib.Core.Path.{_≡_};
 ghost use Prim.Native.Nat.{_≤_};
 ghost use Rattle.block.specs.Ranges.{maxPairs};

@@ -1,4 +1,4 @@
-// A field's verdict: its header's, then its body's.
+// A field's verdict: its header's, then its body's. The definitions are format's specs/Read.antt.
 ghost use mathlib.Core.Path.{_≡_};
 ghost use Prim.Native.Nat.{_≤_};
 ghost use Rattle.block.specs.Ranges.{maxPairs};

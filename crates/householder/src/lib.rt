@@ -1,4 +1,4 @@
-// Householder's reflections: `qr`, and `q_tr_mul` by what it leaves.
+// Householder's reflections, as document 01, "The reference build", has them: `qr`, and `q_tr_mul` by what it leaves.
 ghost use mathlib.Core.Path.{_≡_};
 ghost use Prim.Native.Nat.{_≤_, _<_, _*_, _+_, _-_};
 ghost use lib.ListN.{length};

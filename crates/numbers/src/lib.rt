@@ -1,4 +1,4 @@
-// The numbers of a field, their ranges, and verdicts.
+// The numbers of a field, their ranges, and verdicts. The definitions are format's specs/Read.antt.
 ghost use mathlib.Core.Path.{_≡_};
 ghost use Prim.Native.Nat.{_≤_, _<_};
 ghost use lib.Signed.{leZ};

@@ -1,4 +1,4 @@
-// Reads a block file.
+// Reads a block file. The definition is `read` of format's specs/Read.antt.
 ghost use mathlib.Core.Path.{_≡_};
 ghost use mathlib.Core.Bool.{true, false};
 ghost use Prim.Native.Nat.{_≤_};

@@ -1,4 +1,4 @@
-// The Cholesky factor and triangular systems. An n by n matrix is read in its lower triangle only.
+// The Cholesky factor and triangular systems, in document 01's order of sums. An n by n matrix is read in its lower triangle only.
 ghost use mathlib.Core.Path.{_≡_};
 ghost use Prim.Native.Nat.{_≤_, _<_, _*_};
 ghost use lib.ListN.{length};
