@@ -1,4 +1,4 @@
--- Laws of the definitions.
+-- Laws of the definitions: how long the lists are.
 use mathlib.Core.Path.{_≡_}
 use mathlib.Core.List.{List}
 use Prim.Native.Nat.{ℕ, _*_}
