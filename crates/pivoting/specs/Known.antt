@@ -27,7 +27,7 @@ abbrev basis : List Float
 basis = ofBits binary64 0x3fe3_3333_3333_3333 ∷ ofBits binary64 0x3fe9_9999_9999_999a ∷ f0 ∷ f0 ∷ []
 
 pub dependent : factored 2 2 2 doubled ≡ pivoting left coefficients basis (1 ∷ []) (true ∷ false ∷ [])
-unfolding factored pivoted walk ended pivotStep choose taken withBasis removeAll removeOne removePart subColumn largestColumn betterOne better columnNorm
-    largestNorm tolerance putColumn column dot sumSquares norm divided copy filled fold tab pick both fmax totalLess negative root ofBits add sub mul div lt
-    le eq isNan ofInt
+unfolding factored pivoted walk ended pivotStep choose taken withBasis removeAll removeOne removePart subColumn largestColumn betterOne better
+    columnNorm largestNorm tolerance putColumn column dot sumSquares norm divided copy filled fold tab pick both fmax totalLess negative root ofBits
+    add sub mul div lt le eq isNan ofInt
 dependent = refl

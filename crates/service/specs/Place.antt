@@ -61,7 +61,7 @@ placeRead (Outcome.block b) room = placeBlock b room
 unfoldable pub place : List ℕ → (room : ℕ) → Placed
 place s room = placeRead (read s) room
 
--- ---- what a call leaves: its number, the slice, and how many of its bytes are the file's. "A refusal is its number only; lent slices are untouched."
+-- ---- what a call leaves: its number, the slice, how many of its bytes are the file's. "A refusal is its number only; lent slices are untouched."
 unfoldable pub numberOf : Placed → ℕ
 numberOf (answered a) = 0
 numberOf (refused n) = n

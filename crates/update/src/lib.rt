@@ -1,4 +1,4 @@
-// A Cholesky factor as a variable leaves or joins, by document 01's rank-one step. The factor of k variables is the first k * k elements of its array.
+// A Cholesky factor as a variable leaves or joins, by document 01's rank-one step. That of k variables is the first k * k elements of its array.
 ghost use mathlib.Core.Path.{_≡_};
 ghost use Prim.Native.Nat.{_≤_, _<_, _*_, _+_};
 ghost use lib.ListN.{length};
