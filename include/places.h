@@ -44,7 +44,7 @@ extern "C" {
  * anchor or a span is missed by is at most the sum of its coefficients' sizes; and no plan that keeps the block costs less than this plan's cost less
  * the gap in the file.
  *
- * Refusals, in this order: the block's, 1 to 7; 8; the engine's, 12 or 14 (11 and 13 belong to its other calls); 14 where a weight of the engine is not
+ * Refusals, in this order: the block's, 1 to 7; 8; the engine's, 11, 12 or 14 (13 belongs to its other calls); 14 where a weight of the engine is not
  * finite or the written times break one of those bounds; 15. On a refusal the slice and *written keep their values. Stack: 293 KB. */
 uint32_t places_place(const uint8_t *block, size_t block_len,
                       uint8_t *answer, size_t answer_len,
