@@ -1,5 +1,4 @@
 -- qp.rs, `solve_piecewise_in_units`: what a pass gives, and what every pass keeps.
-use mathlib.Core.Path.{_≡_}
 use Prim.Native.Nat.{ℕ}
 use mathlib.Core.List.{List}
 use lib.Ieee.{Float}

@@ -19,7 +19,7 @@ use lib.Ieee.Positive.{above, above-of-le, positive, le→cross, values-of-le, m
 use borrow.Author.Tests.{ne-eqb}
 use Rattle.root.specs.Laws.{root-nan, root-infinite}
 use Rattle.root.specs.Nearest.{root-nearest}
-use Rattle.folds.specs.Fold.{all-at, all-yes, pick, out}
+use Rattle.folds.specs.Fold.{all-at, all-yes, out}
 use Rattle.folds.specs.Decide.{lt-or-le}
 use Rattle.arith.specs.Float.{f0, f1, fadd, fmul, sqrt}
 use Rattle.matrix.specs.Matrix.{cell}

@@ -1,4 +1,4 @@
-use Rattle.folds.specs.Kit.{arith, pick, kit}
+use Rattle.folds.specs.Kit.{pick, kit}
 use Rattle.factor.specs.Held.{leaveOne}
 use Rattle.factor.proofs.leave_one.Statement.{statement}
 use Rattle.factor.proofs.leave_one.Tie as tie

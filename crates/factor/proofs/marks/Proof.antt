@@ -1,4 +1,4 @@
-use Rattle.folds.specs.Kit.{_≡_, true, _-_, _≤_, arith, length, set, fold, fold-call, fold-end, kit}
+use Rattle.folds.specs.Kit.{_≡_, true, _-_, _≤_, length, set, fold, fold-end, kit}
 use Rattle.matrix.specs.Matrix.{index}
 use Rattle.sizes.specs.Sizes as Sizes
 use Rattle.factor.specs.Laws.{marks-made}

@@ -1,4 +1,4 @@
-use Rattle.folds.specs.Kit.{arith, needs}
+use Rattle.folds.specs.Kit.{needs}
 use Rattle.folds.specs.Tab.{over-whole}
 use Rattle.matrix.specs.Laws.{length-trMul}
 use Rattle.factored.specs.Factored.{gram}

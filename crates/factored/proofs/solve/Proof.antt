@@ -1,4 +1,4 @@
-use Rattle.folds.specs.Kit.{sym, arith, needs}
+use Rattle.folds.specs.Kit.{sym, arith}
 use lib.Seq.{length-take-le}
 use Rattle.factored.specs.Factored.{scaledMultipliers, withX, withH, solveOnce}
 use Rattle.factored.proofs.solve.Statement.{statement}

@@ -1,4 +1,3 @@
-use Rattle.folds.specs.Kit.{needs}
 use Rattle.factored.specs.Factored.{refined}
 use Rattle.factored.proofs.solve_over.Statement.{statement}
 use Rattle.factored.proofs.solve_over.Tie as tie

@@ -1,4 +1,4 @@
-use Rattle.folds.specs.Kit.{_≡_, sym, _*_, arith, length, needs, kit}
+use Rattle.folds.specs.Kit.{_≡_, sym, _*_, arith, length, kit}
 use Rattle.folds.specs.Tab.{taken-over}
 use lib.ListN.{take}
 use Rattle.matrix.specs.Matrix.{selectRows}

@@ -1,4 +1,4 @@
-use Rattle.folds.specs.Kit.{arith, needs}
+use Rattle.folds.specs.Kit.{needs}
 use Rattle.probe.specs.Hooks.{allBut}
 use Rattle.probe.proofs.all_but.Statement.{statement}
 use Rattle.probe.proofs.all_but.Tie as tie
