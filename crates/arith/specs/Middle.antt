@@ -1,6 +1,6 @@
 -- The middle of two ends, low + (high - low) / 2, is no NaN and not below zero, where low is from +0 up and below high. An infinite high has an
 -- infinite middle.
-use mathlib.Core.Path.{_≡_, sym, subst}
+use mathlib.Core.Path.{_≡_, refl, sym, subst}
 use mathlib.Core.Bool.{Bool, true, false, cond}
 use Prim.Native.Nat.{ℕ, zero, suc, _+_, _-_, _*_, _/_, _%_, _^_, _<_, compare}
 use native.Mathlib.Nat.{le-of-lt}
@@ -92,6 +92,10 @@ half-upward x u = subst (λ (t : Float). T (upward (fdiv x t))) (sym two-is) (ha
 -- ---- the middle
 unfoldable pub middle : (a b : Float) → Float
 middle a b = fadd a (fdiv (fsub b a) f2)
+
+pub middle-is : (a b : Float) → fadd a (fdiv (fsub b a) f2) ≡ middle a b
+unfolding middle
+middle-is a b = refl
 
 pub middle-upward : (a b : Float) → T (upward a) → lt a b ≡ true → T (upward (middle a b))
 unfolding middle

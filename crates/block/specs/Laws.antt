@@ -1,14 +1,14 @@
 -- Each definition by its equation, for the crates above; and that no plan with a time outside 0 to 262,144 keeps the bounds.
 use mathlib.Core.Path.{_≡_, refl}
 use mathlib.Core.Logic.{_⊎_, ⊎-elim}
-use mathlib.Core.Bool.{Bool, true, false}
+use mathlib.Core.Bool.{true, false}
 use mathlib.Core.List.{List}
 use Prim.Native.Nat.{ℕ, _≤_, _<_}
 use native.Mathlib.Omega.{arith}
 use lib.ListN.{length}
 use lib.IntN.{ℤ, pos, _+ℤ_, _-ℤ_, _*ℤ_}
 use lib.Signed.{_≤ℤ_, _<ℤ_, leZ, ltZ}
-use Rattle.folds.specs.Fold.{all, both, pick}
+use Rattle.folds.specs.Fold.{all, both, pick, false-of}
 use Rattle.ints.specs.Diff.{diff, split, maxℤ}
 use Rattle.ints.specs.Sum.{Σ}
 use Rattle.block.specs.Block.{Block, Word, Item, Tempo, Anchor, Span, word, tempo, anchor, span}
@@ -162,14 +162,10 @@ below n = split _ λ a b. simp diff (omega arith)
 beyond : (n : ℕ) (t : ℤ) → n ≤ maxTime → pos maxTime <ℤ t → t ≤ℤ pos n → ⊥
 beyond n = split _ λ a b. simp diff (omega arith)
 
-is-false : (t : Bool) → (t ≡ true → ⊥) → t ≡ false
-is-false true h = absurd (h refl)
-is-false false h = refl
-
 pub bounded-far : {b : Block} → Ranged b → (x : List ℤ) (i : ℕ) → i < length (b .words)
     → (time x i <ℤ pos 0) ⊎ (pos maxTime <ℤ time x i) → bounded b x ≡ false
 bounded-far {b} R x i l far =
-    is-false (bounded b x)
+    false-of (bounded b x)
     (λ e.
     let w = bounded-true b x e .windows i l in
     ⊎-elim (λ h. below (word b i .lower) (time x i) h (w .0)) (λ h. beyond (word b i .upper) (time x i) (R .each-word i l .upper) h (w .1)) far)

@@ -4,19 +4,17 @@ use mathlib.Core.Path.{_≡_, refl, sym, ap, _∙_}
 use mathlib.Core.List.{List}
 use Prim.Native.Nat.{ℕ, zero, suc, _+_, _*_, _^_, _<_, _≤_}
 use native.Mathlib.Nat.{le-trans, suc-mul}
-use native.Mathlib.Numerals.{add-one}
 use native.Mathlib.Omega.{arith}
 use lib.IntN.{ℤ, _+ℤ_, +ℤ-idr, +ℤ-assoc}
 use lib.Ieee.{Float, nan}
 use Rattle.folds.specs.Fold.{fold, tab}
-use Rattle.folds.specs.Tab.{tab-same, getD-tab}
+use Rattle.folds.specs.Tab.{set-tab, tab-same, getD-tab}
 use Rattle.ints.specs.Bound.{_≼_, _+b_, loose, Σ-b, delta-b}
-use Rattle.ints.specs.Sum.{Σ, Σ-next, delta, delta-same, delta-other}
+use Rattle.ints.specs.Sum.{Σ, Σ-empty, Σ-suc, delta, delta-same, delta-other}
 use Rattle.arith.specs.Float.{fadd}
 use Rattle.nearest.specs.Value.{fromℤ}
 use Rattle.nearest.specs.Exact.{Stands, plus-exact}
 use Rattle.block_qp.specs.Qp.{plusAt}
-use Rattle.block_qp.specs.Entries.{Σ-none, set-tab}
 
 -- n whole numbers
 abbrev pub wholes : (n : ℕ) (s : ℕ → ℤ) → List Float
@@ -42,10 +40,6 @@ module _ (n w : ℕ) (v : Float) (z : ℤ) (a : ℕ) (h : w < n) (stands : Stand
   pub adds-one : Adds n a (λ x. plusAt x w v) (λ i. delta w i z)
   adds-one = record { small = λ i. delta-b w i small; adds = one-added }
 
--- (`Σ-next` at suc n)
-Σ-next′ : (n : ℕ) (f : ℕ → ℤ) → Σ (suc n) f ≡ Σ n f +ℤ f n
-Σ-next′ n f = rw (← add-one n, Σ-next n f)
-
 -- m steps, one after the other
 pub adds-all : (n a m : ℕ) (f : ℕ → List Float → List Float) (d : ℕ → ℕ → ℤ) → ((k : ℕ) → k < m → Adds n a (f k) (d k)) →
     Adds n (m * a) (λ x. fold m f x) (λ i. Σ m (λ k. d k i))
@@ -54,11 +48,11 @@ adds-all n a m f d h = record { small = λ i. Σ-b m (λ k. d k i) (λ k l. h k 
   where
     go : (m : ℕ) → ((k : ℕ) → k < m → Adds n a (f k) (d k)) → (t : ℕ) (s : ℕ → ℤ) → t + m * a ≤ 2 ^ 53 → ((i : ℕ) → s i ≼ t) →
         fold m f (wholes n s) ≡ wholes n (λ i. s i +ℤ Σ m (λ k. d k i))
-    go zero h t s l b = tab-same n _ _ (λ i _. ap fromℤ (sym (ap (λ (z : ℤ). s i +ℤ z) (Σ-none (λ k. d k i)) ∙ +ℤ-idr (s i))))
+    go zero h t s l b = tab-same n _ _ (λ i _. ap fromℤ (sym (ap (λ (z : ℤ). s i +ℤ z) (Σ-empty (λ k. d k i)) ∙ +ℤ-idr (s i))))
     go (suc m) h t s l b =
         let e : suc m * a ≡ m * a + a = suc-mul m a in
         let r = go m (λ k q. h k (omega arith)) t s (omega arith) b in
         ap (f m) r
         ∙ h m (omega arith) .adds (t + m * a) (λ i. s i +ℤ Σ m (λ k. d k i)) (omega arith)
         (λ i. b i +b Σ-b m (λ k. d k i) (λ k q. h k (omega arith) .small i))
-        ∙ tab-same n _ _ (λ i _. ap fromℤ (+ℤ-assoc (s i) (Σ m (λ k. d k i)) (d m i) ∙ ap (λ (z : ℤ). s i +ℤ z) (sym (Σ-next′ m (λ k. d k i)))))
+        ∙ tab-same n _ _ (λ i _. ap fromℤ (+ℤ-assoc (s i) (Σ m (λ k. d k i)) (d m i) ∙ ap (λ (z : ℤ). s i +ℤ z) (sym (Σ-suc m (λ k. d k i)))))

@@ -6,20 +6,19 @@ use Prim.Native.Nat.{ℕ, zero, suc, _+_, _*_, _<_, _≤_}
 use native.Mathlib.Nat.{not-suc-le-zero, eq-or-lt-of-le, le-of-suc-le-suc, le-trans, mul-comm, zero-mul}
 use native.Mathlib.Numerals.{add-one}
 use native.Mathlib.Omega.{arith}
-use lib.ListN.{length, take, set, getD, length-set}
-use lib.Seq.{take-at, take-all, getD-set-same, getD-set-other, ext-getD}
+use lib.ListN.{length, take, set}
+use lib.Seq.{take-at, take-all}
 use lib.Dec.{T, le→leb, lt→ltb, lit≤}
 use lib.IntN.{ℤ, pos, negsuc, +ℤ-idl, +ℤ-idr}
 use lib.Ieee.{Float, nan, binary64, inFloat, ofInt, ofBits}
 use mir.Syntax.{w64}
 use mir.Val.{toZ, ofZ}
-use Rattle.folds.specs.Decide.{by-order}
 use Rattle.folds.specs.Fold.{fold, tab, tabM, over}
-use Rattle.folds.specs.Tab.{tab-end, tab-same, tab-all, length-tab, length-tabM, getD-tab}
+use Rattle.folds.specs.Tab.{tab-end, set-tab, tab-same, tab-all, length-tabM}
 use Rattle.folds.specs.Part.{part, withPart, length-part}
 use Rattle.ints.specs.Bound.{_≼_, loose}
 use Rattle.ints.specs.Held.{cell, read}
-use Rattle.ints.specs.Sum.{Σ, Σ-next, Σ-ext, Σ-zero, delta-same, delta-other}
+use Rattle.ints.specs.Sum.{Σ, Σ-empty, Σ-next, Σ-ext, Σ-zero, delta-same, delta-other}
 use Rattle.arith.specs.Float.{f0}
 use Rattle.vector.specs.Vector.{filled}
 use Rattle.vector.specs.Laws.{length-filled, filled-at, over-filled}
@@ -45,27 +44,6 @@ zeros n = sym (tab-all nan n (filled n f0) (length-filled n f0)) ∙ tab-same n 
     from-zero : f0 ≡ fromℤ (pos 0)
     from-zero = unfold ofInt ofBits in refl
 
--- the sum of nothing
-pub Σ-none : (f : ℕ → ℤ) → Σ 0 f ≡ pos 0
-Σ-none f = Σ-ext 0 f (λ _. pos 0) (λ i h. absurd (not-suc-le-zero h)) ∙ Σ-zero 0
-
--- a store at w
-pub set-tab : {A : Type 0} (n w : ℕ) (g h : ℕ → A) (v : A) → w < n → v ≡ h w → ((i : ℕ) → i < n → (i ≡ w → ⊥) → g i ≡ h i) →
-    set (tab n g) w v ≡ tab n h
-set-tab n w g h v b e f =
-    ext-getD v (set (tab n g) w v) (tab n h) (length-set (tab n g) w v ∙ length-tab n g ∙ sym (length-tab n h))
-    (λ i l.
-    let k : i < n = rw (length-set, length-tab) at l in
-    by-order i w (λ (p : i < w). other i k (λ q. omega arith)) (λ (p : i ≡ w). same i k p) (λ (p : w < i). other i k (λ q. omega arith)))
-  where
-    other : (i : ℕ) → i < n → (i ≡ w → ⊥) → getD (set (tab n g) w v) i v ≡ getD (tab n h) i v
-    other i k q = getD-set-other (tab n g) w i v v q ∙ getD-tab v n i g k ∙ f i k q ∙ sym (getD-tab v n i h k)
-
-    same : (i : ℕ) → i < n → i ≡ w → getD (set (tab n g) w v) i v ≡ getD (tab n h) i v
-    same i k q =
-        let m : w < length (tab n g) = rw (length-tab n g) b in
-        rw q (getD-set-same (tab n g) w v v m ∙ e ∙ sym (getD-tab v n w h b))
-
 -- ---- a number in its range loses nothing as a float
 pub in-float : (z : ℤ) → z ≼ 8388608 → T (inFloat binary64 z)
 unfolding inFloat
@@ -90,7 +68,7 @@ pub column-none : {y : List Float} (l : List Item) (n : ℕ) (o : List Float) �
 column-none {y} l n o e t =
     let f : y ≡ filled n f0 = t ∙ over-filled n f0 o e in
     let g : length y ≡ n = ap length f ∙ length-filled n f0 in
-    rw g (f ∙ zeros n ∙ tab-same n _ _ (λ i _. ap fromℤ (sym (Σ-none (coefAt i l)))))
+    rw g (f ∙ zeros n ∙ tab-same n _ _ (λ i _. ap fromℤ (sym (Σ-empty (coefAt i l)))))
 
 -- of all
 pub column-end : {y : List Float} (l : List Item) (k m n : ℕ) → k ≡ length l → m ≡ n → y ≡ tab m (λ i. fromℤ (Σ k (coefAt i l))) → y ≡ column n l

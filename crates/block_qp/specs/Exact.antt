@@ -14,13 +14,13 @@ use lib.ListN.{length}
 use lib.Ieee.{Float, nan, isNan}
 use Rattle.folds.specs.Cell.{cell-lt}
 use Rattle.folds.specs.Decide.{same-or-not}
-use Rattle.folds.specs.Fold.{some-no}
 use Rattle.folds.specs.Tab.{getD-tab, getD-tabM}
 use Rattle.ints.specs.Bound.{_≼_, _*b_, loose, pos-b, same-b}
 use Rattle.ints.specs.Sum.{Σ, delta, Σ-ext, Σ-times, Σ-by, delta-same, delta-other}
 use Rattle.arith.specs.Float.{fmul, f0, fromℕ, at}
 use Rattle.arith.specs.Laws.{finite-number}
 use Rattle.vector.specs.Vector.{anyNan, filled}
+use Rattle.vector.specs.Laws.{numbers-all}
 use Rattle.matrix.specs.Laws.{place-same}
 use Rattle.nearest.specs.Value.{fromℤ, finite-whole}
 use Rattle.nearest.specs.Exact.{Stands, stands-from, stands-times}
@@ -272,20 +272,15 @@ module _ {b : Block} (R : Ranged b) where
   whole-cap = record { is = refl; small = loose (lit≤ tt) (pos-b (R .cap)) }
 
 -- ---- so no bound is a NaN
--- whole numbers are no NaNs
-all-numbers : (m : ℕ) (a : List Float) (z : ℕ → ℤ) → ((i : ℕ) → i < m → Whole (at a i) (z i)) → anyNan m a ≡ false
-unfolding anyNan
-all-numbers m a z h = some-no m _ (λ i l. whole-number (h i l))
-
 module _ {b : Block} (R : Ranged b) where
   pub lowers-numbers : anyNan (length (b .words)) (lowers b) ≡ false
-  lowers-numbers = all-numbers _ _ _ (whole-lowers R)
+  lowers-numbers = numbers-all _ _ (λ i l. whole-number (whole-lowers R i l))
 
   pub uppers-numbers : anyNan (length (b .words)) (uppers b) ≡ false
-  uppers-numbers = all-numbers _ _ _ (whole-uppers R)
+  uppers-numbers = numbers-all _ _ (λ i l. whole-number (whole-uppers R i l))
 
   pub spanLowers-numbers : anyNan (length (b .spans)) (spanLowers b) ≡ false
-  spanLowers-numbers = all-numbers _ _ _ (whole-spanLowers R)
+  spanLowers-numbers = numbers-all _ _ (λ i l. whole-number (whole-spanLowers R i l))
 
   pub spanUppers-numbers : anyNan (length (b .spans)) (spanUppers b) ≡ false
-  spanUppers-numbers = all-numbers _ _ _ (whole-spanUppers R)
+  spanUppers-numbers = numbers-all _ _ (λ i l. whole-number (whole-spanUppers R i l))

@@ -4,12 +4,9 @@ use mathlib.Core.Bool.{true, false}
 use mathlib.Core.List.{List, _++_}
 use Prim.Native.Nat.{ℕ, _+_, _*_, _≤_}
 use native.Mathlib.Omega.{arith}
-use borrow.Author.Tests.{le-leb, eq-eqb}
 use lib.ListN.{length, take, length-append}
 use lib.Seq.{take-at}
 use lib.Ieee.{Float}
-use Rattle.folds.specs.Fold.{pick-false, both-yes}
-use Rattle.vector.specs.Vector.{anyNan}
 use Rattle.block.specs.Block.{Block}
 use Rattle.block.specs.Ranges.{Ranged}
 use Rattle.format.specs.declared.Block as Held
@@ -21,8 +18,8 @@ use Rattle.block_qp.specs.Qp.{lowers, uppers, anchorValues, spanLowers, spanUpp
 use Rattle.block_qp.specs.Laws.{length-hessian, length-linear, length-keys, length-slopes, length-lowers, length-uppers, length-starts}
 use Rattle.block_qp.specs.Laws.{length-anchorColumns, length-anchorValues, length-spanColumns, length-spanLowers, length-spanUppers}
 use Rattle.block_qp.specs.Exact.{lowers-numbers, uppers-numbers, spanLowers-numbers, spanUppers-numbers}
-use Rattle.piecewise.specs.Piecewise.{Quadratic, quadratic, sized, long, shaped, blank}
-use Rattle.piecewise.specs.Laws.{Size}
+use Rattle.piecewise.specs.Piecewise.{Quadratic, quadratic, shaped, blank}
+use Rattle.piecewise.specs.Laws.{shaped-yes, blank-no}
 use Rattle.block_solve.specs.Solve.{quadraticOf, solveBlock, Matrices, Words, Solves}
 
 -- ---- an answer has a weight for each word, a multiplier for each anchor and span, and few passes
@@ -38,45 +35,11 @@ solved-sized b x multipliers passes raise e =
     let z = optimal-sized _ _ _ _ e in record { x-long = z .0; multipliers-long = z .1; passes-few = z .3 }
 
 -- ---- a block in document 01's ranges is neither 9 nor 10, nor is it ever 13: the answer is the engine's
--- the tests of its sizes, and of its bounds for a NaN, pass
-sized-yes : {n m r q c e b a : ℕ} → Size n m r q c e b a → sized n m r q c e b a ≡ true
-unfolding sized
-sized-yes s =
-    both-yes (le-leb _ _ (s .originals))
-    (both-yes (le-leb _ _ (s .equalities))
-    (both-yes (le-leb _ _ (s .rows))
-    (both-yes (eq-eqb _ _ (s .q-long))
-    (both-yes (eq-eqb _ _ (s .c-long))
-    (both-yes (eq-eqb _ _ (s .e-long))
-    (both-yes (eq-eqb _ _ (s .b-long))
-    (eq-eqb _ _ (s .a-long))))))))
-
-long-yes : {n r lower upper rowLower rowUpper at slopes start x multipliers : ℕ} (m : ℕ) → lower ≡ n → upper ≡ n → rowLower ≡ r
-    → rowUpper ≡ r → at ≡ n → slopes ≡ n → start ≡ n → x ≡ n → multipliers ≡ m + r
-    → long n m r lower upper rowLower rowUpper at slopes start x multipliers ≡ true
-unfolding long
-long-yes m f g h i j k l o p =
-    both-yes (eq-eqb _ _ f)
-    (both-yes (eq-eqb _ _ g)
-    (both-yes (eq-eqb _ _ h)
-    (both-yes (eq-eqb _ _ i)
-    (both-yes (eq-eqb _ _ j)
-    (both-yes (eq-eqb _ _ k)
-    (both-yes (eq-eqb _ _ l)
-    (both-yes (eq-eqb _ _ o)
-    (eq-eqb _ _ p))))))))
-
-blank-no : (n r : ℕ) (lower upper rowLower rowUpper : List Float) → anyNan n lower ≡ false → anyNan n upper ≡ false → anyNan r rowLower ≡ false
-    → anyNan r rowUpper ≡ false → blank n r lower upper rowLower rowUpper ≡ false
-unfolding blank
-blank-no n r lower upper rowLower rowUpper f g h i = sym (pick-false _ _ f (pick-false _ _ g (pick-false _ _ h (sym i))))
-
 module _ (b : Block) where
   block-shaped : Ranged b → shaped (quadraticOf b) (length (b .words)) (length (b .anchors) + length (b .spans)) ≡ true
-  unfolding quadraticOf shaped
+  unfolding quadraticOf
   block-shaped R =
-      both-yes
-      (sized-yes
+      shaped-yes
       (record {
         originals = R .words;
         equalities = R .anchors;
@@ -86,10 +49,18 @@ module _ (b : Block) where
         e-long = length-anchorColumns b;
         b-long = length-anchorValues b;
         a-long = length-spanColumns b;
-      }))
-      (long-yes (length (b .anchors)) (length-lowers b) (length-uppers b) (length-spanLowers b) (length-spanUppers b) (length-keys b)
-      (length-slopes b)
-      (length-starts b) refl refl)
+      })
+      (record {
+        lower-long = length-lowers b;
+        upper-long = length-uppers b;
+        rowLower-long = length-spanLowers b;
+        rowUpper-long = length-spanUppers b;
+        at-long = length-keys b;
+        slopes-long = length-slopes b;
+        start-long = length-starts b;
+        x-long = refl;
+        multipliers-long = refl;
+      })
 
   block-numbers : Ranged b → blank (length (b .words)) (length (b .spans)) (lowers b) (uppers b) (spanLowers b) (spanUppers b) ≡ false
   block-numbers R = blank-no _ _ _ _ _ _ (lowers-numbers R) (uppers-numbers R) (spanLowers-numbers R) (spanUppers-numbers R)

@@ -1,7 +1,6 @@
 -- Laws of the definitions: each reads the same of the code's arrays as of their first n and w entries.
 use mathlib.Core.Path.{_≡_, refl, sym, ap, _∙_}
 use mathlib.Core.Bool.{Bool, true, false}
-use mathlib.Core.Logic.{_⊎_, inl, inr}
 use mathlib.Core.List.{List, _∷_}
 use Prim.Native.Nat.{ℕ, zero, suc, _≤_}
 use native.Mathlib.Omega.{arith}
@@ -12,12 +11,6 @@ use Rattle.arith.specs.Float.{f0}
 use Rattle.sizes.specs.Sizes as Sizes
 use Rattle.bracket.specs.declared.Bracket.{Bracket}
 use Rattle.bracket.specs.Bracket.{bracketOf, new, exceed, accept, warmed, double, secant, halve, inside, cut, closed}
-
--- which branch was taken
-pub pick-told : {A : Type 0} {z : A} (k : Bool) (x y : A) → pick k x y ≡ z → ((k ≡ true) × (x ≡ z)) ⊎ ((k ≡ false) × (y ≡ z))
-unfolding pick
-pick-told true x y e = inl (refl, e)
-pick-told false x y e = inr (refl, e)
 
 taken : (k n : ℕ) (v : Float) → k ≤ n → take k (replicate n v) ≡ replicate k v
 taken zero n v h = refl

@@ -91,7 +91,7 @@ max-b {x} {y} {a} p q = go (leZ x y)
     go true = q
     go false = p
 
-mag-le : (z : ℤ) → mag z ≤ natAbs z
+pub mag-le : (z : ℤ) → mag z ≤ natAbs z
 mag-le (pos n) = le-refl n
 mag-le (negsuc n) = omega arith
 

@@ -17,6 +17,14 @@ use Rattle.ints.specs.Order.{≤-plus}
 unfoldable pub Σ : (n : ℕ) (f : ℕ → ℤ) → ℤ
 Σ n f = fold n (λ i s. s +ℤ f i) (pos 0)
 
+pub Σ-empty : (f : ℕ → ℤ) → Σ 0 f ≡ pos 0
+unfolding Σ fold
+Σ-empty f = refl
+
+pub Σ-suc : (n : ℕ) (f : ℕ → ℤ) → Σ (suc n) f ≡ Σ n f +ℤ f n
+unfolding Σ fold
+Σ-suc n f = refl
+
 -- a turn of a loop
 pub Σ-next : (n : ℕ) (f : ℕ → ℤ) → Σ (n + 1) f ≡ Σ n f +ℤ f n
 unfolding Σ fold

@@ -3,8 +3,8 @@ use mathlib.Core.List.{List}
 use Prim.Native.Nat.{ℕ, _+_}
 use lib.Ieee.{Float}
 use Rattle.folds.specs.Fold.{pick-keep}
-use Rattle.folds.specs.Run.{Pass, more, Kept, run-keep}
-use Rattle.folds.specs.Until.{until}
+use Rattle.folds.specs.Run.{Kept}
+use Rattle.folds.specs.Until.{until-all}
 use Rattle.arith.specs.Float.{infinity}
 use Rattle.active.specs.Answer as Engine
 use Rattle.active.specs.Active.{budget}
@@ -17,12 +17,6 @@ use Rattle.bracket.specs.Sized.{Sized, accept-sized, exceed-sized, cut-sized}
 use Rattle.multiplier.specs.Search.{Problem, problem, Ended, found, nonFinite, singular, unbounded, notConverged, solve}
 use Rattle.multiplier.specs.Search.{doubleOn, doubleBy, doubleStep, reachedOr, reached, cutBy, cutAt, cutStep, narrowedOr, narrowed}
 use Rattle.multiplier.specs.Search.{thenNarrowed, reachAndNarrow}
-
--- what every step keeps, and every answer has, the whole has
-until-all : {S A : Type 0} (step : S → Pass S A) (spent : A) (μ : S → ℕ) (P : S → Type 0) (Q : A → Type 0) → ((s : S) → P s → Kept P Q (step s)) →
-    Q spent → (s : S) → P s → Q (until step spent μ s)
-unfolding until Kept
-until-all step spent μ P Q f q s p = run-keep (λ _. step) (λ _ _. spent) P Q (λ _. f) (λ _ _ _. q) _ _ (more s) p
 
 -- of a solve, and of how a loop ended
 abbrev pub Answers : (n m r : ℕ) → Engine.Answer → Type 0

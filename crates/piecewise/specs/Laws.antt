@@ -4,11 +4,12 @@ use mathlib.Core.List.{List}
 use mathlib.Core.Bool.{true, false}
 use Prim.Native.Nat.{ℕ, _+_, _*_, _≤_, _<_}
 use native.Mathlib.Omega.{arith}
-use borrow.Author.Tests.{leb-true, eqb-true, lt-leb}
+use borrow.Author.Tests.{leb-true, eqb-true, lt-leb, le-leb, eq-eqb}
 use lib.ListN.{length}
 use lib.Ieee.{Float}
-use Rattle.folds.specs.Fold.{pick-true, pick-false, pick-keep, both-true, both-first}
+use Rattle.folds.specs.Fold.{pick-true, pick-false, pick-keep, both-true, both-first, both-yes}
 use Rattle.sizes.specs.Sizes as Sizes
+use Rattle.vector.specs.Vector.{anyNan}
 use Rattle.vector.specs.Laws.{length-div}
 use Rattle.units.specs.Units.{columnScales, unitsK, unitsC, unitsE, unitsB}
 use Rattle.segments.specs.declared.Segments.{Segments}
@@ -109,16 +110,16 @@ size n m r q c e b a t =
       a-long = eqb-true _ _ (p7 .1);
     }
 
-record Long (n m r lower upper rowLower rowUpper at slopes start x multipliers : ℕ) : Type 0 where
-  lower-long : lower ≡ n
-  upper-long : upper ≡ n
-  rowLower-long : rowLower ≡ r
-  rowUpper-long : rowUpper ≡ r
-  at-long : at ≡ n
-  slopes-long : slopes ≡ n
-  start-long : start ≡ n
-  x-long : x ≡ n
-  multipliers-long : multipliers ≡ m + r
+pub record Long (n m r lower upper rowLower rowUpper at slopes start x multipliers : ℕ) : Type 0 where
+  pub lower-long : lower ≡ n
+  pub upper-long : upper ≡ n
+  pub rowLower-long : rowLower ≡ r
+  pub rowUpper-long : rowUpper ≡ r
+  pub at-long : at ≡ n
+  pub slopes-long : slopes ≡ n
+  pub start-long : start ≡ n
+  pub x-long : x ≡ n
+  pub multipliers-long : multipliers ≡ m + r
 
 lengths : (n m r lower upper rowLower rowUpper at slopes start x multipliers : ℕ) →
     long n m r lower upper rowLower rowUpper at slopes start x multipliers ≡ true →
@@ -144,6 +145,47 @@ lengths n m r lower upper rowLower rowUpper at slopes start x multipliers t =
       x-long = eqb-true _ _ (p8 .0);
       multipliers-long = eqb-true _ _ (p8 .1);
     }
+
+-- sizes that pass them
+sized-yes : {n m r q c e b a : ℕ} → Size n m r q c e b a → sized n m r q c e b a ≡ true
+unfolding sized
+sized-yes s =
+    both-yes (le-leb _ _ (s .originals))
+    (both-yes (le-leb _ _ (s .equalities))
+    (both-yes (le-leb _ _ (s .rows))
+    (both-yes (eq-eqb _ _ (s .q-long))
+    (both-yes (eq-eqb _ _ (s .c-long))
+    (both-yes (eq-eqb _ _ (s .e-long))
+    (both-yes (eq-eqb _ _ (s .b-long))
+    (eq-eqb _ _ (s .a-long))))))))
+
+long-yes : {n m r lower upper rowLower rowUpper at slopes start x multipliers : ℕ} →
+    Long n m r lower upper rowLower rowUpper at slopes start x multipliers →
+    long n m r lower upper rowLower rowUpper at slopes start x multipliers ≡ true
+unfolding long
+long-yes l =
+    both-yes (eq-eqb _ _ (l .lower-long))
+    (both-yes (eq-eqb _ _ (l .upper-long))
+    (both-yes (eq-eqb _ _ (l .rowLower-long))
+    (both-yes (eq-eqb _ _ (l .rowUpper-long))
+    (both-yes (eq-eqb _ _ (l .at-long))
+    (both-yes (eq-eqb _ _ (l .slopes-long))
+    (both-yes (eq-eqb _ _ (l .start-long))
+    (both-yes (eq-eqb _ _ (l .x-long))
+    (eq-eqb _ _ (l .multipliers-long)))))))))
+
+module _ {n m r : ℕ} {q c e b lower upper a rowLower rowUpper at slopes start : List Float} {x multipliers : ℕ} where
+  pub shaped-yes : Size n m r (length q) (length c) (length e) (length b) (length a) →
+      Long n m r (length lower) (length upper) (length rowLower) (length rowUpper) (length at) (length slopes) (length start) x multipliers →
+      shaped (quadratic n m r q c e b lower upper a rowLower rowUpper at slopes start) x multipliers ≡ true
+  unfolding shaped
+  shaped-yes s l = both-yes (sized-yes s) (long-yes l)
+
+-- bounds of which none is a NaN
+pub blank-no : (n r : ℕ) (lower upper rowLower rowUpper : List Float) → anyNan n lower ≡ false → anyNan n upper ≡ false →
+    anyNan r rowLower ≡ false → anyNan r rowUpper ≡ false → blank n r lower upper rowLower rowUpper ≡ false
+unfolding blank
+blank-no n r lower upper rowLower rowUpper f g h i = sym (pick-false _ _ f (pick-false _ _ g (pick-false _ _ h (sym i))))
 
 -- all that they tell of a call's arguments
 pub record Shape (n m r : ℕ) (q c e b lower upper a rowLower rowUpper at slopes start : List Float) (x multipliers : ℕ) : Type 0 where

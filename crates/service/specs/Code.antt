@@ -13,10 +13,10 @@ use Rattle.format.specs.declared.Block.{Block}
 use Rattle.format.specs.Read.{Outcome, read}
 use Rattle.format.specs.InRange.{read-ranged}
 use Rattle.format.specs.Structs.{blockOf, Sound}
-use Rattle.format.specs.Entries.{words-length, anchors-length, spans-length}
+use Rattle.format.specs.Entries.{words-length}
 use Rattle.exact.specs.Planned.{Planned}
 use Rattle.gap.specs.Prices.{priceCount}
-use Rattle.gap.specs.Input.{PlanAndPrices}
+use Rattle.gap.specs.Input.{PlanAndPrices, same-count}
 use Rattle.answer.specs.File.{file, fileSize, Written}
 use Rattle.answer.specs.Pasted.{length-file}
 use Rattle.answer.specs.Back.{Sized}
@@ -34,10 +34,6 @@ use Rattle.service.specs.Written.{same-block, answer-sized, answer-writt
 use Rattle.service.specs.declared.Placement.{Placement}
 use Rattle.service.specs.Held.{answerIn, Holds, PlacedFor, holds-refusal, holds-answer, holds-number}
 
--- the counts are the block's
-pub count-is : {b : Block} → Sound b → priceCount (blockOf b) ≡ b .anchors + b .spans
-count-is S = ap₂ _+_ (anchors-length S) (spans-length S)
-
 -- what is written of the engine's answer, as the code holds it
 abbrev pub writtenOf : Block → Solved → Place.Placed
 writtenOf b s = Place.written (blockOf b) (weights b s) (multipliersOf b s) (s .passes) (s .raise)
@@ -48,7 +44,7 @@ module _ {b : Block} (S : Sound b) (R : Ranged (blockOf b)) (s : Solved) (x-room
   x-long = length-take-le _ _ x-room ∙ sym (words-length S)
 
   μ-long : length (multipliersOf b s) ≡ priceCount (blockOf b)
-  μ-long = length-take-le _ _ μ-room ∙ sym (count-is S)
+  μ-long = length-take-le _ _ μ-room ∙ sym (same-count S)
 
   module _ {t : Times} (T : TimesOf (weights b s) t) where
     pub times-off : {p : Placement} → t .on ≡ false → Holds (refused 14) b p → Holds (writtenOf b s) b p
@@ -100,7 +96,7 @@ module _ {b : Block} (S : Sound b) (R : Ranged (blockOf b)) (s : Solved) (x-room
 -- ---- a block, by the cases of the code: the file's size is `size`
 module _ {b : Block} (S : Sound b) {size : ℕ} (e : size ≡ fileSize (b .words) (b .anchors + b .spans + 1)) where
   size-is : size ≡ fileSize (length (blockOf b .words)) (priceCount (blockOf b) + 1)
-  size-is = e ∙ ap₂ (λ (n m : ℕ). fileSize n (m + 1)) (sym (words-length S)) (sym (count-is S))
+  size-is = e ∙ ap₂ (λ (n m : ℕ). fileSize n (m + 1)) (sym (words-length S)) (sym (same-count S))
 
   pub short-slice : {p : Placement} (room : ℕ) → room < size → Holds (refused 8) b p → Holds (placeBlock (blockOf b) room) b p
   short-slice room h H = record { is = H .is ∙ too-small (blockOf b) room (subst (λ (n : ℕ). room < n) size-is h); of-block = H .of-block }
@@ -159,7 +155,7 @@ module _ (s o : List ℕ) {p : Placement} (P : PlacedFor s (length o) p) where
         let q = same-block (F .is-read) (P .is-read z) in
         length-file (answerIn p)
         ∙ ap₂ fileSize (P .planned z .each)
-        (F .answers .ranged .prices ∙ ap (λ (b : Spec.Block). priceCount b + 1) q ∙ ap (λ (n : ℕ). n + 1) (count-is sound))
+        (F .answers .ranged .prices ∙ ap (λ (b : Spec.Block). priceCount b + 1) q ∙ ap (λ (n : ℕ). n + 1) (same-count sound))
 
     pub call-answered : {old r n : ℕ} {slice : List ℕ} → Written (answerIn p) o r slice
         → n ≡ fileSize (p .block .words) (p .block .anchors + p .block .spans + 1) → Answered s o old r slice n

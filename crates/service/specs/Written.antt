@@ -2,15 +2,16 @@
 use mathlib.Core.Path.{_≡_, refl, sym, _∙_, ap, ap₂, subst, subst₂}
 use mathlib.Core.Logic.{⊎-elim}
 use mathlib.Core.List.{List}
-use Prim.Native.Nat.{ℕ, suc, _+_, _≤_, _<_}
+use Prim.Native.Nat.{ℕ, _+_, _≤_, _<_}
 use native.Mathlib.Omega.{arith}
 use lib.Dec.{lit≤}
 use lib.ListN.{length, take}
-use lib.IntN.{ℤ, pos, negsuc, natAbs}
+use lib.IntN.{ℤ, natAbs}
 use lib.Signed.{mag}
 use Rattle.folds.specs.Fold.{over}
 use Rattle.folds.specs.Tab.{taken-over}
 use Rattle.folds.specs.Decide.{lt-or-le}
+use Rattle.ints.specs.Bound.{mag-le}
 use Rattle.block.specs.Block.{Block}
 use Rattle.block.specs.Plan.{time}
 use Rattle.block.specs.Gap.{price}
@@ -31,10 +32,6 @@ use Rattle.service.specs.Promise.{Answers, Plan, Answered}
 use Rattle.service.specs.Laws.{Found, place-answer}
 
 -- ---- the numbers fit their bytes
-mag-le : (z : ℤ) → mag z ≤ natAbs z
-mag-le (pos n) = omega arith
-mag-le (negsuc n) = omega arith
-
 small : (m half : ℕ) (z : ℤ) → natAbs z ≤ m → m < half → mag z < half
 small m half z h l = omega (arith, mag-le z)
 

@@ -11,7 +11,7 @@ use lib.Seq.{getD-take, ext-getD, length-take-le, take-all}
 use lib.Ieee.{Float, nan, binary64, isNan, eq}
 use lib.Ieee.Fits.{div-fits}
 use lib.Ieee.Positive.{num, den, den-pos, through}
-use Rattle.folds.specs.Fold.{fold, over, all-at, fold-same, all-same, some-same, all-yes}
+use Rattle.folds.specs.Fold.{fold, over, all-at, fold-same, all-same, some-same, all-yes, some-no}
 use Rattle.folds.specs.Tab.{length-tab, getD-tab, tab-same, tab-all, over-all, over-in, take-replicate}
 use Rattle.arith.specs.Float.{fadd, fsub, fmul, fdiv, f0, at, sum}
 use Rattle.arith.specs.Scalar.{abs, max, isFinite}
@@ -266,6 +266,10 @@ finite-at n k a e h = all-at n k (λ j. isFinite (at a j)) e h
 pub finite-all : (n : ℕ) (a : List Float) → ((k : ℕ) → k < n → isFinite (at a k) ≡ true) → allFinite n a ≡ true
 unfolding allFinite
 finite-all n a h = all-yes n (λ j. isFinite (at a j)) h
+
+pub numbers-all : (n : ℕ) (a : List Float) → ((k : ℕ) → k < n → isNan (at a k) ≡ false) → anyNan n a ≡ false
+unfolding anyNan
+numbers-all n a h = some-no n (λ j. isNan (at a j)) h
 
 -- ---- no element is larger than the largest
 pub amax-largest : (n : ℕ) (a : List Float) → ((k : ℕ) → k < n → isFinite (at a k) ≡ true) →
