@@ -7,22 +7,20 @@ use native.Mathlib.Nat.{le-trans, le-of-eq, lt-of-lt-of-le, lt-of-le-of-lt, lt-o
 use native.Mathlib.Nat.{mul-right-comm, mul-pos, mul-le-mul-left, mul-lt-mul-of-pos-right, lt-of-mul-lt-mul-right, eq-of-mul-eq-mul-right}
 use native.Mathlib.Nat.{mul-div-cancel, pow-suc}
 use native.Mathlib.Omega.{arith}
-use borrow.Author.Tests.{lt-ltb, le-ltb}
+use borrow.Author.Tests.{lt-ltb}
 use lib.IntN.{ℤ, pos}
 use lib.Dec.{T, lit<}
 use lib.Pow.{pow-add, pow-pos, pow-mono}
-use lib.Ieee.{Float, nan, inf, fin, Format, binary64, low, up, down, size, round, mul, div, ofBits, toBits, fits, lt}
+use lib.Ieee.{Float, nan, inf, fin, Format, binary64, low, up, down, size, round, mul, div, ofBits, fits, lt}
 use lib.Ieee.Digits.{size-lt, size-le, size-reaches}
-use lib.Ieee.Fits.{down-pos, mul-fits}
+use lib.Ieee.Fits.{down-pos}
 use lib.Ieee.Exact.{HasValue, round-exact}
 use lib.Ieee.Positive.{first-pos}
 use lib.Ieee.Scale.{overflow}
 use Rattle.folds.specs.Fold.{false-true}
 use Rattle.arith.specs.Float.{f0, f2, fmul, fdiv}
 use Rattle.arith.specs.Neutral.{zero-is}
-use Rattle.arith.specs.Compare.{lt-trans}
 use Rattle.arith.specs.Order.{upward, inUnits, on-grid, units-is, units-exact, cross, not-cross, of-cross, inf-last, upward-above, under-inf}
-use Rattle.arith.specs.Order.{bits-lt}
 
 -- ---- 2, and half of the largest f64, `f64::MAX / 2.0`
 abbrev pub halfMax : Float
@@ -160,16 +158,6 @@ above-zero x y u h = go x y u (upward-above x y u h) h
     go (fin false m e) (fin false n d) u v h =
         of-positive n d (first-pos (n * up d) (down e) (lt-of-le-of-lt (nothing (m * up e * down d)) (cross m e n d h)))
 
-pub not-negative : (x : Float) → T (upward x) → lt x f0 ≡ false
-not-negative x u = subst (λ (z : Float). lt x z ≡ false) (sym zero-is) (go x u)
-  where
-    go : (x : Float) → T (upward x) → lt x (fin false 0 (pos 0)) ≡ false
-    go nan u = absurd u
-    go (inf true) u = absurd u
-    go (inf false) u = unfold lt in refl
-    go (fin true m e) u = absurd u
-    go (fin false m e) u = unfold lt in le-ltb (m * up e * 1) (0 * 1 * down e) (le-trans (le-of-eq (zero-mul (down e))) (nothing (m * up e * 1)))
-
 small : (h : Float) → T (fits binary64 h) → lt f0 h ≡ true → lt halfMax h ≡ false → Small h
 small h g p q = go h g (upward-above (fin false 0 (pos 0)) h tt (subst (λ (x : Float). lt x h ≡ true) zero-is p)) p q
   where
@@ -200,13 +188,6 @@ doubled (fin false m e) g v =
 unfoldable pub doublings : Float → ℕ
 doublings h = 2098 - size (inUnits binary64 h)
 
-pub doublings-most : (h : Float) → doublings h ≤ 2098
-unfolding doublings
-doublings-most h = go (size (inUnits binary64 h))
-  where
-    go : (z : ℕ) → 2098 - z ≤ 2098
-    go z = omega arith
-
 units-pos : (h : Float) → T (fits binary64 h) → Small h → 0 < inUnits binary64 h
 units-pos nan g v = absurd v
 units-pos (inf s) g v = absurd v
@@ -230,12 +211,6 @@ module _ (h : Float) (g : T (fits binary64 h)) (p : lt f0 h ≡ true) (q : lt ha
 
   pub double-units : inUnits binary64 (fmul h f2) ≡ inUnits binary64 h * 2
   double-units = doubled h g (small h g p q) .1
-
-  pub double-above : lt f0 (fmul h f2) ≡ true
-  double-above = lt-trans f0 h (fmul h f2) p double-lt
-
-  pub double-bits : toBits binary64 h < toBits binary64 (fmul h f2)
-  double-bits = bits-lt binary64 h (fmul h f2) g (mul-fits binary64 h f2) (upward-above f0 h zero-upward p) double-lt
 
   pub double-size : size (inUnits binary64 h) < size (inUnits binary64 (fmul h f2))
   double-size = rw double-units (size-double (inUnits binary64 h) (units-pos h g (small h g p q)))

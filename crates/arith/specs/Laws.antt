@@ -6,9 +6,8 @@ use Prim.Native.Nat.{ℕ}
 use borrow.Author.Tests.{not-true}
 use lib.IntN.{ℤ}
 use lib.Ieee.{Float, nan, inf, fin, isNan, neg, lt, eq}
-use Rattle.folds.specs.Fold.{pick, pick-keep, pick-by, both, both-yes, both-true, false-true, false-of}
-use Rattle.arith.specs.Float.{fneg}
-use Rattle.arith.specs.Scalar.{isFinite, isInfinite, negative, abs, clamp, max, min, totalLess}
+use Rattle.folds.specs.Fold.{pick, pick-by, both, both-yes, both-true, false-true, false-of}
+use Rattle.arith.specs.Scalar.{isFinite, negative, abs, clamp, max, min, totalLess}
 use Rattle.arith.specs.Compare.{lt-irrefl, lt-asym, lt-passes, lt-number, nan-before, nan-after, eq-not, eq-lt, eq-number, eq-trans}
 use Rattle.arith.specs.Compare.{lt-passes-back}
 
@@ -35,82 +34,15 @@ pub finite-number : (x : Float) → isFinite x ≡ true → isNan x ≡ false
 unfolding isNan
 finite-number = finite-by (λ x. isNan x ≡ false) (λ s m e. refl)
 
-pub finite-bounded : (x : Float) → isFinite x ≡ true → isInfinite x ≡ false
-unfolding isInfinite
-finite-bounded = finite-by (λ x. isInfinite x ≡ false) (λ s m e. refl)
-
-pub infinite-number : (x : Float) → isInfinite x ≡ true → isNan x ≡ false
-unfolding isInfinite isNan
-infinite-number nan h = absurd (false-true h)
-infinite-number (inf s) h = refl
-infinite-number (fin s m e) h = refl
-
-pub number-finite : (x : Float) → isNan x ≡ false → isInfinite x ≡ false → isFinite x ≡ true
-unfolding isFinite isInfinite isNan
-number-finite nan h k = absurd (false-true (sym h))
-number-finite (inf s) h k = absurd (false-true (sym k))
-number-finite (fin s m e) h k = refl
-
 -- ---- the sign and the absolute value
-pub abs-finite : (x : Float) → isFinite (abs x) ≡ isFinite x
-unfolding abs isFinite
-abs-finite nan = refl
-abs-finite (inf s) = refl
-abs-finite (fin s m e) = refl
-
-pub abs-infinite : (x : Float) → isInfinite (abs x) ≡ isInfinite x
-unfolding abs isInfinite
-abs-infinite nan = refl
-abs-infinite (inf s) = refl
-abs-infinite (fin s m e) = refl
-
-pub abs-nan : (x : Float) → isNan (abs x) ≡ isNan x
-unfolding abs isNan
-abs-nan nan = refl
-abs-nan (inf s) = refl
-abs-nan (fin s m e) = refl
-
 pub abs-sign : (x : Float) → negative (abs x) ≡ false
 unfolding abs negative
 abs-sign nan = refl
 abs-sign (inf s) = refl
 abs-sign (fin s m e) = refl
 
-pub abs-neg : (x : Float) → abs (fneg x) ≡ abs x
-unfolding abs neg
-abs-neg nan = refl
-abs-neg (inf s) = refl
-abs-neg (fin s m e) = refl
-
-pub neg-finite : (x : Float) → isFinite (fneg x) ≡ isFinite x
-unfolding neg isFinite
-neg-finite nan = refl
-neg-finite (inf s) = refl
-neg-finite (fin s m e) = refl
-
-pub neg-sign : (x : Float) → isNan x ≡ false → negative (fneg x) ≡ not (negative x)
-unfolding neg negative isNan
-neg-sign nan h = absurd (false-true (sym h))
-neg-sign (inf s) h = refl
-neg-sign (fin s m e) h = refl
-
 -- ---- the larger and the smaller
-module _ (P : Float → Type 0) (a b : Float) (p : P a) (q : P b) where
-  pub max-keep : P (max a b)
-  unfolding max
-  max-keep = pick-keep P (isNan a) q (pick-keep P (lt a b) q p)
-
-  pub min-keep : P (min a b)
-  unfolding min
-  min-keep = pick-keep P (isNan a) q (pick-keep P (lt b a) q p)
-
 module _ (a b : Float) where
-  pub max-finite : isFinite a ≡ true → isFinite b ≡ true → isFinite (max a b) ≡ true
-  max-finite p q = max-keep (λ x. isFinite x ≡ true) a b p q
-
-  pub min-finite : isFinite a ≡ true → isFinite b ≡ true → isFinite (min a b) ≡ true
-  min-finite p q = min-keep (λ x. isFinite x ≡ true) a b p q
-
   -- a NaN gives way
   pub max-nan-first : isNan a ≡ true → max a b ≡ b
   unfolding max pick
@@ -153,10 +85,6 @@ module _ (a b : Float) where
 
 -- ---- held between two
 module _ (x lo hi : Float) where
-  pub clamp-keep : (P : Float → Type 0) → P x → P lo → P hi → P (clamp x lo hi)
-  unfolding clamp
-  clamp-keep P p q r = pick-keep P (lt x lo) q (pick-keep P (lt hi x) r p)
-
   pub clamp-low : lt x lo ≡ true → clamp x lo hi ≡ lo
   unfolding clamp pick
   clamp-low h = rw h

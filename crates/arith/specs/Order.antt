@@ -4,7 +4,7 @@ use mathlib.Core.Path.{_≡_, refl, sym, ap, _∙_, subst}
 use mathlib.Core.Logic.{inl, inr}
 use mathlib.Core.Bool.{Bool, true, false, not, _&&_}
 use Prim.Native.Nat.{ℕ, zero, suc, _+_, _-_, _*_, _/_, _%_, _^_, _≤_, _<_}
-use native.Mathlib.Nat.{sub-le, le-trans, le-of-eq, le-of-lt, lt-of-lt-of-le, lt-of-le-of-lt, eq-or-lt-of-le, zero-add, add-comm, zero-mul, mul-comm}
+use native.Mathlib.Nat.{le-trans, le-of-eq, le-of-lt, lt-of-lt-of-le, lt-of-le-of-lt, eq-or-lt-of-le, zero-add, add-comm, zero-mul, mul-comm}
 use native.Mathlib.Nat.{mul-assoc, mul-right-comm, suc-mul, mul-le-mul-right, mul-lt-mul-of-pos-right, lt-of-mul-lt-mul-right, mul-div-cancel}
 use native.Mathlib.Nat.{div-mul-le-self, div-lt-iff-lt-mul, le-div-iff-mul-le}
 use native.Mathlib.Omega.{arith}
@@ -266,15 +266,6 @@ bits-up f (fin false m e) (fin false n d) p q u w h =
 pub bits-lt : (f : Format) (x y : Float) → T (fits f x) → T (fits f y) → T (upward x) → lt x y ≡ true → toBits f x < toBits f y
 bits-lt f x y p q u h = bits-up f x y p q u (upward-above x y u h) h
 
--- an infinity's bits are the most
-pub bits-most : (f : Format) (y : Float) → T (fits f y) → T (upward y) → toBits f y ≤ ones f * hid f
-bits-most f nan q v = absurd v
-bits-most f (inf true) q v = absurd v
-bits-most f (inf false) q v = le-of-eq (sym (inf-is f))
-bits-most f (fin true n d) q v = absurd v
-bits-most f (fin false n d) q v =
-    le-of-lt (lt-of-le-of-lt (le-of-eq (bits-is f n d)) (below-inf f (inUnits f (fin false n d)) (units-under f false n d q)))
-
 -- ---- the bits that lie from x up to y; with a float strictly between, fewer on either side
 unfoldable pub between : (x y : Float) → ℕ
 between x y = toBits binary64 y - toBits binary64 x
@@ -288,7 +279,3 @@ unfolding between
 between-falls x m y p q r u h k =
     fewer-left (toBits binary64 x) (toBits binary64 m) (toBits binary64 y) (bits-lt binary64 x m p q u h)
     (bits-lt binary64 m y q r (upward-above x m u h) k)
-
-pub between-most : (x y : Float) → T (fits binary64 y) → T (upward y) → between x y ≤ 2047 * 2 ^ 52
-unfolding between
-between-most x y q v = le-trans (sub-le (toBits binary64 y) (toBits binary64 x)) (bits-most binary64 y q v)

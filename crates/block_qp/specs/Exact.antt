@@ -1,7 +1,7 @@
 -- Each number that the engine gets is a whole number of the block, exactly, and at most 2 ^ 40 in size. Document 01: "Q adds weight × coefficient
 -- products, c adds weight × target × coefficient": entry i j of Q is the sum of weight × coefficient i × coefficient j over the tempos, entry i of c
 -- that of weight × target × coefficient i. So no order of adding could give another float.
-use mathlib.Core.Path.{_≡_, refl, sym, ap, _∙_, subst}
+use mathlib.Core.Path.{_≡_, refl, sym, ap, _∙_}
 use mathlib.Core.Bool.{Bool, true, false, cond}
 use mathlib.Core.List.{List}
 use mathlib.Core.Logic.{⊎-elim}
@@ -41,9 +41,6 @@ pub record Whole (x : Float) (z : ℤ) : Type 0 where
 
 within : {z : ℤ} {a : ℕ} → z ≼ a → T (leb a (2 ^ 53)) → natAbs z ≤ 2 ^ 53
 within p t = le-trans (p .size) (lit≤ t)
-
-pub whole-stands : {x : Float} {z : ℤ} → Whole x z → Stands x z
-whole-stands {x} {z} w = subst (λ (y : Float). Stands y z) (sym (w .is)) (stands-from z (within (w .small) tt))
 
 pub whole-number : {x : Float} {z : ℤ} → Whole x z → isNan x ≡ false
 whole-number {x} {z} w = rw (w .is) (finite-number (fromℤ z) (finite-whole z (within (w .small) tt)))

@@ -3,25 +3,23 @@ use mathlib.Core.Path.{_≡_, refl, sym, ap, _∙_}
 use mathlib.Core.List.{List}
 use mathlib.Core.Logic.{⊎-elim}
 use Prim.Native.Nat.{ℕ, zero, suc, _+_, _*_, _<_, _≤_}
-use native.Mathlib.Nat.{le-refl, eq-or-lt-of-le, le-of-suc-le-suc, mul-le-mul-right, mul-comm, not-suc-le-zero, suc-mul}
+use native.Mathlib.Nat.{le-refl, eq-or-lt-of-le, mul-le-mul-right, mul-comm, suc-mul}
 use native.Mathlib.Omega.{arith}
 use borrow.Author.Needs.{needs}
 use borrow.Author.Tests.{eq-eqb, ne-eqb}
-use lib.ListN.{length, take, drop, set, getD, length-set}
+use lib.ListN.{length, set, getD}
 use lib.Seq.{getD-set-same, getD-set-other}
 use lib.Ieee.{Float, nan}
-use Rattle.folds.specs.Fold.{fold, folds, fold-call, fold-turn, fold-end, fold-keep, fold-same, tabM, over, pick}
-use Rattle.folds.specs.Tab.{length-tab, length-tabM, getD-tab, getD-tabM, tab-same, tabM-same, tabM-flat, tab-all, over-all, over-in, over-tabM}
-use Rattle.folds.specs.Tab.{part-tab}
+use Rattle.folds.specs.Fold.{fold, folds, fold-call, fold-turn, fold-end, fold-same, tabM, over, pick}
+use Rattle.folds.specs.Tab.{length-tab, length-tabM, getD-tab, getD-tabM, tabM-same, tabM-flat, tab-all, over-all, over-in, over-tabM}
 use Rattle.folds.specs.Cell.{cell-lt}
 use Rattle.folds.specs.Decide.{lt-or-le}
-use Rattle.arith.specs.Float.{fmul, fdiv, f0, f1, at}
+use Rattle.arith.specs.Float.{fdiv, f0, f1, at}
 use Rattle.arith.specs.Neutral.{sum-same}
-use Rattle.vector.specs.Vector.{Below, dot, amax}
-use Rattle.vector.specs.Laws.{Same, dot-sum}
-use Rattle.matrix.specs.Matrix.{cell, put, column, diagonal, trace, rowDot, mulVec, columnDot, trMulVec, cellDot, mul, columnsDot, trMul}
-use Rattle.matrix.specs.Matrix.{transpose, unit, identity, index, selectRows, selectColumns, rowsDivided, columnsDivided, columnsAmax}
-use Rattle.matrix.specs.Matrix.{putColumn}
+use Rattle.vector.specs.Vector.{amax}
+use Rattle.vector.specs.Laws.{Same}
+use Rattle.matrix.specs.Matrix.{cell, put, column, diagonal, rowDot, mulVec, columnDot, trMulVec, cellDot, mul, columnsDot, trMul, transpose}
+use Rattle.matrix.specs.Matrix.{unit, identity, index, selectRows, selectColumns, rowsDivided, columnsDivided, columnsAmax, putColumn}
 
 -- ---- lengths
 module _ (n : ℕ) where
@@ -157,54 +155,11 @@ module _ (n m : ℕ) where
   unfolding columnsAmax
   columnsAmax-at a j h = getD-tab nan m j _ h
 
--- column j is a part of the list
-pub column-part : (n j : ℕ) (a : List Float) → j * n + n ≤ length a → column n a j ≡ take n (drop (j * n) a)
-unfolding column
-column-part n j a h = sym (part-tab nan (j * n) n a h)
-
 pub over-identity : (n : ℕ) (o : List Float) → length o ≡ n * n → over (identity n) o ≡ identity n
 over-identity n o e = over-all (identity n) o (length-identity n ∙ sym e)
 
-pub columnDot-dot : (n : ℕ) (a : List Float) (j : ℕ) (x : List Float) → columnDot n a j x ≡ dot n (column n a j) x
-unfolding columnDot
-columnDot-dot n a j x =
-    sum-same n (λ i. fmul (cell a n i j) (at x i)) (λ i. fmul (at (column n a j) i) (at x i)) (λ i h. rw (column-at n a j i h))
-    ∙ sym (dot-sum n (column n a j) x)
-
 -- ---- only the elements of the matrix count
 module _ (n m : ℕ) (a b : List Float) (e : Same (n * m) a b) where
-  pub column-same : (j : ℕ) → j < m → column n a j ≡ column n b j
-  unfolding column
-  column-same j q = tab-same n _ _ (λ i p. cell-same n m i j p q a b e)
-
-  pub rowDot-same : (i : ℕ) (x y : List Float) → i < n → Same m x y → rowDot n m a i x ≡ rowDot n m b i y
-  unfolding rowDot
-  rowDot-same i x y p f = sum-same m _ _ (λ j q. rw (cell-same n m i j p q a b e, f j q))
-
-  pub mulVec-same : (x y : List Float) → Same m x y → mulVec n m a x ≡ mulVec n m b y
-  unfolding mulVec
-  mulVec-same x y f = tab-same n _ _ (λ i p. rowDot-same i x y p f)
-
-  pub columnDot-same : (j : ℕ) (x y : List Float) → j < m → Same n x y → columnDot n a j x ≡ columnDot n b j y
-  unfolding columnDot
-  columnDot-same j x y q f = sum-same n _ _ (λ i p. rw (cell-same n m i j p q a b e, f i p))
-
-  pub trMulVec-same : (x y : List Float) → Same n x y → trMulVec n m a x ≡ trMulVec n m b y
-  unfolding trMulVec
-  trMulVec-same x y f = tab-same m _ _ (λ j q. columnDot-same j x y q f)
-
-  pub transpose-same : transpose n m a ≡ transpose n m b
-  unfolding transpose
-  transpose-same = tabM-same m n _ _ (λ i j p q. cell-same n m j i q p a b e)
-
-  pub selectRows-same : (k : ℕ) (l : List ℕ) → Below k l n → selectRows n m a k l ≡ selectRows n m b k l
-  unfolding selectRows
-  selectRows-same k l h = tabM-same k m _ _ (λ i j p q. cell-same n m (index l i) j (h i p) q a b e)
-
-  pub selectColumns-same : (k : ℕ) (l : List ℕ) → Below k l m → selectColumns n a k l ≡ selectColumns n b k l
-  unfolding selectColumns
-  selectColumns-same k l h = tabM-same n k _ _ (λ i j p q. cell-same n m i (index l j) p (h j q) a b e)
-
   pub rowsDivided-same : (x y : List Float) → Same n x y → rowsDivided n m a x ≡ rowsDivided n m b y
   unfolding rowsDivided
   rowsDivided-same x y f = tabM-same n m _ _ (λ i j p q. rw (cell-same n m i j p q a b e, f i p))
@@ -213,28 +168,10 @@ module _ (n m : ℕ) (a b : List Float) (e : Same (n * m) a b) where
   unfolding columnsDivided
   columnsDivided-same x y f = tabM-same n m _ _ (λ i j p q. rw (cell-same n m i j p q a b e, f j q))
 
-  pub columnsAmax-same : columnsAmax n m a ≡ columnsAmax n m b
-  unfolding columnsAmax
-  columnsAmax-same = tab-same m _ _ (λ j q. ap (amax n) (column-same j q))
-
   -- a is n by m: a times c, m by k
   pub mul-same : (k : ℕ) (c d : List Float) → Same (m * k) c d → mul n m k a c ≡ mul n m k b d
   unfolding mul cellDot
   mul-same k c d f = tabM-same n k _ _ (λ i j p q. sum-same m _ _ (λ t h. rw (cell-same n m i t p h a b e, cell-same m k t j h q c d f)))
-
-  -- and aᵀ times c, n by k
-  pub trMul-same : (k : ℕ) (c d : List Float) → Same (n * k) c d → trMul n m k a c ≡ trMul n m k b d
-  unfolding trMul columnsDot
-  trMul-same k c d f = tabM-same m k _ _ (λ i j p q. sum-same n _ _ (λ t h. rw (cell-same n m t i h p a b e, cell-same n k t j h q c d f)))
-
-module _ (n : ℕ) (a b : List Float) (e : Same (n * n) a b) where
-  pub diagonal-same : diagonal n a ≡ diagonal n b
-  unfolding diagonal
-  diagonal-same = tab-same n _ _ (λ i p. cell-same n n i i p p a b e)
-
-  pub trace-same : trace n a ≡ trace n b
-  unfolding trace
-  trace-same = sum-same n _ _ (λ i p. cell-same n n i i p p a b e)
 
 -- ---- one entry written
 
@@ -280,10 +217,6 @@ module _ (n j : ℕ) (g : ℕ → Float) (a : List Float) where
   unfolding putColumn
   column-end k m p q e = fold-end k m (λ i l. put l n i j (g i)) a p q e
 
-  pub length-putColumn : (k : ℕ) → length (putColumn k n j g a) ≡ length a
-  unfolding putColumn
-  length-putColumn k = fold-keep (λ (l : List Float). length l ≡ length a) k (λ i l. put l n i j (g i)) a refl (λ i l h p. length-set l _ _ ∙ p)
-
   -- the entries from k on are as they were
   pub column-kept : (k i : ℕ) → k ≤ i → cell (putColumn k n j g a) n i j ≡ cell a n i j
   unfolding putColumn fold
@@ -291,18 +224,6 @@ module _ (n j : ℕ) (g : ℕ → Float) (a : List Float) where
   column-kept (suc k) i h =
       let differ : i + j * n ≡ k + j * n → ⊥ = λ e. omega arith in
       getD-set-other (putColumn k n j g a) (k + j * n) (i + j * n) (g k) nan differ ∙ column-kept k i (omega arith)
-
-  -- those below k are g's
-  pub column-put : (k i : ℕ) → i < k → k + j * n ≤ length a → cell (putColumn k n j g a) n i j ≡ g i
-  unfolding putColumn fold
-  column-put zero i h w = absurd (not-suc-le-zero h)
-  column-put (suc k) i h w =
-      ⊎-elim
-      (λ (e : i ≡ k). let u : k + j * n < length (putColumn k n j g a) = rw (length-putColumn k) (omega arith) in
-      rw (e, getD-set-same (putColumn k n j g a) (k + j * n) (g k) nan u))
-      (λ (l : i < k). let differ : i + j * n ≡ k + j * n → ⊥ = λ e. omega arith in
-      getD-set-other (putColumn k n j g a) (k + j * n) (i + j * n) (g k) nan differ ∙ column-put k i l (omega arith))
-      (eq-or-lt-of-le (le-of-suc-le-suc h))
 
 -- the other columns are as they were
 pub column-other : (n j t : ℕ) (g : ℕ → Float) (a : List Float) (k i : ℕ) → k ≤ n → i < n → j < t → cell (putColumn k n j g a) n i t ≡ cell a n i t

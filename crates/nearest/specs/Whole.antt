@@ -4,8 +4,7 @@
 use mathlib.Core.Path.{_≡_, refl, ap, _∙_, subst}
 use mathlib.Core.Bool.{Bool, true, false, cond}
 use Prim.Native.Nat.{ℕ, suc, _+_, _*_, _%_, _≤_, _<_}
-use native.Mathlib.Nat.{div-add-mod', mod-lt, mul-le-mul-right, mul-pos, eq-of-mul-eq-mul-right, suc-mul, add-mul, le-of-suc-le-suc}
-use native.Mathlib.Nat.{lt-of-mul-lt-mul-right}
+use native.Mathlib.Nat.{div-add-mod', mod-lt, mul-le-mul-right, mul-pos, eq-of-mul-eq-mul-right, suc-mul, le-of-suc-le-suc, lt-of-mul-lt-mul-right}
 use native.Mathlib.Omega.{arith}
 use lib.Dec.{eqb, le→leb}
 use borrow.Author.Tests.{eqb-true, eqb-false}
@@ -55,20 +54,8 @@ apart-nat : (u x y : ℕ) → x * u < y * u + u → x ≤ y
 apart-nat u x y h =
     le-of-suc-le-suc (lt-of-mul-lt-mul-right u (let e : suc y * u ≡ y * u + u = suc-mul y u in let r : x * u < suc y * u = omega arith in r))
 
-apart : (u : ℕ) (p q : ℤ) → (p *ℤ pos u) <ℤ (q *ℤ pos u +ℤ pos u) → p ≤ℤ q
-apart u = split _ λ a b. split _ λ c d. simp diff (λ k. apart-nat u (a + d) (c + b) (omega (arith, add-mul a d u, add-mul c b u)))
-
 pub antisym : (p q : ℤ) → p ≤ℤ q → q ≤ℤ p → p ≡ q
 antisym = split _ λ a b. split _ λ c d. simp diff (omega arith)
-
-floor-only : (v : ℤ) (u : ℕ) (p q : ℤ) → Floor v u p → Floor v u q → p ≡ q
-floor-only v u p q f g = antisym p q (apart u p q (link p q (f .below) (g .above))) (apart u q p (link q p (g .below) (f .above)))
-  where
-    chain : (x y z : ℤ) → x ≤ℤ y → y <ℤ z → x <ℤ z
-    chain = split _ λ a b. split _ λ c d. split _ λ e f. simp diff (omega arith)
-
-    link : (p q : ℤ) → (p *ℤ pos u) ≤ℤ v → v <ℤ (q *ℤ pos u +ℤ pos u) → (p *ℤ pos u) <ℤ (q *ℤ pos u +ℤ pos u)
-    link p q a b = chain (p *ℤ pos u) v (q *ℤ pos u +ℤ pos u) a b
 
 -- ---- r is at most half away from v / u: 2 * |v - r * u| ≤ u
 pub record Near (v : ℤ) (u : ℕ) (r : ℤ) : Type 0 where

@@ -1,5 +1,5 @@
 -- Laws of the definitions: the direction has n elements, and what a function's calls leave, put together.
-use mathlib.Core.Path.{_≡_, refl, subst}
+use mathlib.Core.Path.{_≡_, refl}
 use mathlib.Core.Bool.{true, false}
 use mathlib.Core.List.{List}
 use Prim.Native.Nat.{ℕ, _-_, _*_}
@@ -57,9 +57,6 @@ with-fills n m q c e Refused = refl
 pub fills : (n m : ℕ) (q c e : List Float) → Fills n (descentRay n m q c e)
 unfolding descentRay
 fills n m q c e = with-fills n m q c e (kScale n q)
-
-pub length-direction : (n m : ℕ) (q c e direction : List Float) → descentRay n m q c e ≡ descent direction → length direction ≡ n
-length-direction n m q c e direction h = subst (Fills n) h (fills n m q c e)
 
 -- ---- a ray, by whether it was found
 pub ray-found : (n : ℕ) (r : Ray) → r .found ≡ true → rayOf n r ≡ descent (take n (r .direction))

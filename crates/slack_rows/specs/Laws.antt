@@ -9,7 +9,7 @@ use lib.Seq.{getD-take, getD-drop, length-take-le}
 use lib.Ieee.{Float}
 use Rattle.folds.specs.Fold.{fold-keep}
 use Rattle.folds.specs.Tab.{length-tab}
-use Rattle.folds.specs.Chosen.{chosen, length-chosen, chosen-below, chosen-rises, chosen-from}
+use Rattle.folds.specs.Chosen.{chosen, length-chosen, chosen-below, chosen-from}
 use Rattle.folds.specs.Position.{partitionPoint, split-within, split-chosen}
 use Rattle.sizes.specs.Sizes as Sizes
 use Rattle.arith.specs.Float.{f0, at}
@@ -30,10 +30,6 @@ module _ (e : List Float) (n m : ℕ) (solved slacks : List ℕ) (originals firs
   pub kept-below : Below (length kept) kept m
   unfolding keptColumns
   kept-below k h = chosen-below m (λ j. keeps e n solved slacks originals first j) k h
-
-  pub kept-rises : (i k : ℕ) → i < k → k < length kept → index kept i < index kept k
-  unfolding keptColumns
-  kept-rises i k h l = chosen-rises m (λ j. keeps e n solved slacks originals first j) i k h l
 
 -- ---- lengths
 pub length-allMultipliers : (m : ℕ) (kept : List ℕ) (multipliers : List Float) → length (allMultipliers m kept multipliers) ≡ m

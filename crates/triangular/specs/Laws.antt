@@ -9,7 +9,7 @@ use native.Mathlib.Omega.{arith}
 use lib.ListN.{length, set, length-set}
 use lib.Seq.{getD-set-same, getD-set-other}
 use lib.Ieee.{Float, nan, lt}
-use Rattle.folds.specs.Fold.{fold, span, pick, out, fold-by, fold-keep, fold-same, span-same, all-same, false-true}
+use Rattle.folds.specs.Fold.{fold, span, pick, out, fold-by, fold-keep, fold-same, span-same, false-true}
 use Rattle.folds.specs.Steps.{span-by, walk-by}
 use Rattle.folds.specs.Decide.{same-or-not}
 use Rattle.arith.specs.Float.{fadd, fsub, fmul, fdiv, f0, at, sum, sqrt}
@@ -17,8 +17,8 @@ use Rattle.arith.specs.Neutral.{sum-same}
 use Rattle.vector.specs.Laws.{Same}
 use Rattle.matrix.specs.Matrix.{cell, put}
 use Rattle.matrix.specs.Laws.{put-same, put-row, put-column}
-use Rattle.triangular.specs.Triangular.{rowsDot, underRoot, factorEntry, factorBelow, factorColumn, cholesky, positiveDefinite, regular, known}
-use Rattle.triangular.specs.Triangular.{unknown, forward, knownBelow, unknownBack, backward, solve}
+use Rattle.triangular.specs.Triangular.{rowsDot, underRoot, factorEntry, factorBelow, factorColumn, cholesky, known, unknown, forward}
+use Rattle.triangular.specs.Triangular.{knownBelow, unknownBack, backward, solve}
 
 -- ---- lengths
 pub length-forward : (k : ℕ) (l : List Float) (n : ℕ) (x : List Float) → length (forward k l n x) ≡ length x
@@ -69,14 +69,6 @@ module _ (n : ℕ) (a b : List Float) (e : Lower n a b) where
   pub solve-lower : (x : List Float) → solve a n x ≡ solve b n x
   unfolding solve
   solve-lower x = rw (forward-lower n x (omega arith)) (backward-lower (forward n b n x))
-
-  pub regular-lower : regular a n ≡ regular b n
-  unfolding regular
-  regular-lower = all-same n _ _ (λ i p. rw (e i i (omega arith) p))
-
-  pub definite-lower : positiveDefinite a n ≡ positiveDefinite b n
-  unfolding positiveDefinite
-  definite-lower = all-same n _ _ (λ i p. rw (e i i (omega arith) p))
 
 -- ---- l y = x: y_i is (x_i - the sum over j < i of l_ij y_j) / l_ii
 module _ (l : List Float) (n : ℕ) (x : List Float) where

@@ -1,24 +1,24 @@
 -- Laws of the definitions: how long each list is, what stands at each place, and that only the first n elements count.
-use mathlib.Core.Path.{_≡_, refl, sym, ap, subst, _∙_}
+use mathlib.Core.Path.{_≡_, refl, sym, subst, _∙_}
 use mathlib.Core.Bool.{true, false}
 use mathlib.Core.Logic.{⊎-elim}
 use mathlib.Core.List.{List}
 use Prim.Native.Nat.{ℕ, zero, suc, _<_, _≤_}
 use native.Mathlib.Omega.{arith}
-use native.Mathlib.Nat.{le-refl, eq-or-lt-of-le, le-of-suc-le-suc, not-suc-le-zero}
-use lib.ListN.{length, take, getD, replicate, length-replicate}
-use lib.Seq.{getD-take, ext-getD, length-take-le, take-all}
+use native.Mathlib.Nat.{eq-or-lt-of-le, le-of-suc-le-suc, not-suc-le-zero}
+use lib.ListN.{length, take, getD, replicate}
+use lib.Seq.{getD-take, ext-getD}
 use lib.Ieee.{Float, nan, binary64, isNan, eq}
 use lib.Ieee.Fits.{div-fits}
 use lib.Ieee.Positive.{num, den, den-pos, through}
-use Rattle.folds.specs.Fold.{fold, over, all-at, fold-same, all-same, some-same, all-yes, some-no}
+use Rattle.folds.specs.Fold.{fold, over, all-at, all-yes, some-no}
 use Rattle.folds.specs.Tab.{length-tab, getD-tab, tab-same, tab-all, over-all, over-in, take-replicate}
-use Rattle.arith.specs.Float.{fadd, fsub, fmul, fdiv, f0, at, sum}
+use Rattle.arith.specs.Float.{fadd, fsub, fmul, fdiv, f0, at}
 use Rattle.arith.specs.Scalar.{abs, max, isFinite}
-use Rattle.arith.specs.Neutral.{Held, sum-same, zero-is, plus, plus-held, plus-add, add-zero}
+use Rattle.arith.specs.Neutral.{Held, zero-is, plus, plus-held, plus-add, add-zero}
 use Rattle.arith.specs.Quotients.{Size, Under, larger, quotient}
-use Rattle.vector.specs.Vector.{dot, sumSquares, norm, amax, anyNan, allFinite, quotientSquares, scaledNorm, total, totalAbs, scaled, divided}
-use Rattle.vector.specs.Vector.{add, sub, mul, div, addScaled, subScaled, addScalar, copy, filled, select}
+use Rattle.vector.specs.Vector.{amax, anyNan, allFinite, scaled, divided, add, sub, mul, div, addScaled, subScaled, addScalar, copy, filled}
+use Rattle.vector.specs.Vector.{select}
 
 -- ---- lengths
 module _ (n : ℕ) where
@@ -125,11 +125,6 @@ pub copy-all : (n : ℕ) (a : List Float) → length a ≡ n → copy n a ≡ a
 unfolding copy
 copy-all n a e = tab-all nan n a e
 
-pub copy-take : (n : ℕ) (a : List Float) → n ≤ length a → copy n a ≡ take n a
-unfolding copy
-copy-take n a h = ext-getD nan (copy n a) (take n a) (length-copy n a ∙ sym (length-take-le n a h))
-    (λ i l. let k : i < n = rw (length-copy n a) at l in copy-at n i k a ∙ sym (getD-take n a i nan k))
-
 -- a copy over a list of n elements is the copy, and of a list of n elements is that list
 pub over-copy : (n : ℕ) (a o : List Float) → length o ≡ n → over (copy n a) o ≡ copy n a
 over-copy n a o e = over-all (copy n a) o (length-copy n a ∙ sym e)
@@ -147,9 +142,6 @@ take-filled k n v h = take-replicate k n v h
 pub take-zeros : (k n : ℕ) → k ≤ n → take k (replicate n f0) ≡ filled k f0
 take-zeros k n h = take-filled k n f0 h
 
-pub replicate-filled : (n : ℕ) (v : Float) → replicate n v ≡ filled n v
-replicate-filled n v = sym (take-all n (replicate n v) (rw (length-replicate n v) (le-refl n))) ∙ take-filled n n v (le-refl n)
-
 -- ---- only the first n elements count
 abbrev pub Same : (n : ℕ) (a b : List Float) → Type 0
 Same n a b = (k : ℕ) → k < n → at a k ≡ at b k
@@ -160,88 +152,15 @@ same-take n a k h = getD-take n a k nan h
 pub same-over : (n : ℕ) (l o : List Float) → n ≤ length l → Same n (over l o) l
 same-over n l o p k h = over-in nan l o k (omega arith)
 
--- where the first n elements are known as a list
-pub same-taken : (n : ℕ) (a b : List Float) → take n a ≡ take n b → Same n a b
-same-taken n a b e k h = sym (getD-take n a k nan h) ∙ ap (λ (l : List Float). at l k) e ∙ getD-take n b k nan h
-
 pub same-copy : (n : ℕ) (a : List Float) → Same n (copy n a) a
 same-copy n a k h = copy-at n k h a
 
-pub take-same : (n : ℕ) (a b : List Float) → n ≤ length a → n ≤ length b → Same n a b → take n a ≡ take n b
-take-same n a b p q e =
-    ext-getD nan (take n a) (take n b) (length-take-le n a p ∙ sym (length-take-le n b q))
-    (λ i l. let k : i < n = rw (length-take-le n a p) at l in getD-take n a i nan k ∙ e i k ∙ sym (getD-take n b i nan k))
-
 module _ (n : ℕ) (a b : List Float) (e : Same n a b) where
-  pub sumSquares-same : sumSquares n a ≡ sumSquares n b
-  unfolding sumSquares
-  sumSquares-same = sum-same n _ _ (λ k l. rw (e k l))
-
-  pub norm-same : norm n a ≡ norm n b
-  unfolding norm
-  norm-same = rw sumSquares-same
-
-  pub amax-same : amax n a ≡ amax n b
-  unfolding amax
-  amax-same = fold-same n (λ k m. max m (abs (at a k))) (λ k m. max m (abs (at b k))) f0 (λ k s l. rw (e k l))
-
-  pub anyNan-same : anyNan n a ≡ anyNan n b
-  unfolding anyNan
-  anyNan-same = some-same n _ _ (λ k l. ap isNan (e k l))
-
-  pub allFinite-same : allFinite n a ≡ allFinite n b
-  unfolding allFinite
-  allFinite-same = all-same n _ _ (λ k l. ap isFinite (e k l))
-
-  pub quotientSquares-same : (s : Float) → quotientSquares n a s ≡ quotientSquares n b s
-  unfolding quotientSquares
-  quotientSquares-same s = sum-same n _ _ (λ k l. rw (e k l))
-
-  pub scaledNorm-same : scaledNorm n a ≡ scaledNorm n b
-  unfolding scaledNorm
-  scaledNorm-same = rw (anyNan-same, amax-same, quotientSquares-same (amax n b))
-
-  pub total-same : total n a ≡ total n b
-  unfolding total
-  total-same = sum-same n _ _ e
-
-  pub totalAbs-same : totalAbs n a ≡ totalAbs n b
-  unfolding totalAbs
-  totalAbs-same = sum-same n _ _ (λ k l. ap abs (e k l))
-
-  pub scaled-same : (s : Float) → scaled n a s ≡ scaled n b s
-  unfolding scaled
-  scaled-same s = tab-same n _ _ (λ k l. rw (e k l))
-
-  pub divided-same : (s : Float) → divided n a s ≡ divided n b s
-  unfolding divided
-  divided-same s = tab-same n _ _ (λ k l. rw (e k l))
-
-  pub addScalar-same : (s : Float) → addScalar n a s ≡ addScalar n b s
-  unfolding addScalar
-  addScalar-same s = tab-same n _ _ (λ k l. rw (e k l))
-
   pub copy-same : copy n a ≡ copy n b
   unfolding copy
   copy-same = tab-same n _ _ e
 
-pub dot-sum : (n : ℕ) (a b : List Float) → dot n a b ≡ sum n (λ k. fmul (at a k) (at b k))
-unfolding dot
-dot-sum n a b = refl
-
 module _ (n : ℕ) (a b c d : List Float) (e : Same n a c) (f : Same n b d) where
-  pub dot-same : dot n a b ≡ dot n c d
-  unfolding dot
-  dot-same = sum-same n _ _ (λ k l. rw (e k l, f k l))
-
-  pub add-same : add n a b ≡ add n c d
-  unfolding add
-  add-same = tab-same n _ _ (λ k l. rw (e k l, f k l))
-
-  pub sub-same : sub n a b ≡ sub n c d
-  unfolding sub
-  sub-same = tab-same n _ _ (λ k l. rw (e k l, f k l))
-
   pub mul-same : mul n a b ≡ mul n c d
   unfolding mul
   mul-same = tab-same n _ _ (λ k l. rw (e k l, f k l))
@@ -249,14 +168,6 @@ module _ (n : ℕ) (a b c d : List Float) (e : Same n a c) (f : Same n b d) wher
   pub div-same : div n a b ≡ div n c d
   unfolding div
   div-same = tab-same n _ _ (λ k l. rw (e k l, f k l))
-
-  pub addScaled-same : (s : Float) → addScaled n a b s ≡ addScaled n c d s
-  unfolding addScaled
-  addScaled-same s = tab-same n _ _ (λ k l. rw (e k l, f k l))
-
-  pub subScaled-same : (s : Float) → subScaled n a b s ≡ subScaled n c d s
-  unfolding subScaled
-  subScaled-same s = tab-same n _ _ (λ k l. rw (e k l, f k l))
 
 -- ---- finite elements
 pub finite-at : (n k : ℕ) (a : List Float) → allFinite n a ≡ true → k < n → isFinite (at a k) ≡ true

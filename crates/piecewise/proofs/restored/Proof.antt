@@ -77,7 +77,3 @@ restored-spec =
     returns
     (λ c κs. search needs)  -- refused-requires
     returns-2)
-
--- x11149
-marker : Type 1
-marker = Type 0
