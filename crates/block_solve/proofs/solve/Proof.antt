@@ -28,11 +28,17 @@ module _ (c : tie.After-a2) where
   abbrev s : tie.Start
   s = c .before .before .before .before .before .before .before .before .before .before .before
 
-  q : Front (s .args .block .words * s .args .block .words) (c .before .before .before .before .before .before .before .hessian .last .1 .0) (hessian (blockOf (s .args .block)))
-  q = front (c .before .before .before .before .before .before .before .hessian .ensures) (length-hessian _ ∙ ap₂ _*_ (words-length (s .pre .0)) (words-length (s .pre .0)))
+  abbrev h : tie.After-hessian
+  h = c .before .before .before .before .before .before .before
 
-  e : Front (s .args .block .words * s .args .block .anchors) (c .before .before .before .before .anchor-columns .last .1 .0) (anchorColumns (blockOf (s .args .block)))
-  e = front (c .before .before .before .before .anchor-columns .ensures) (length-anchorColumns _ ∙ ap₂ _*_ (words-length (s .pre .0)) (anchors-length (s .pre .0)))
+  abbrev g : tie.After-anchor-columns
+  g = c .before .before .before .before
+
+  q : Front (s .args .block .words * s .args .block .words) (h .hessian .last .1 .0) (hessian (blockOf (s .args .block)))
+  q = front (h .hessian .ensures) (length-hessian _ ∙ ap₂ _*_ (words-length (s .pre .0)) (words-length (s .pre .0)))
+
+  e : Front (s .args .block .words * s .args .block .anchors) (g .anchor-columns .last .1 .0) (anchorColumns (blockOf (s .args .block)))
+  e = front (g .anchor-columns .ensures) (length-anchorColumns _ ∙ ap₂ _*_ (words-length (s .pre .0)) (anchors-length (s .pre .0)))
 
   a : Front (s .args .block .words * s .args .block .spans) (c .before .span-columns .last .1 .0) (spanColumns (blockOf (s .args .block)))
   a = front (c .before .span-columns .ensures) (length-spanColumns _ ∙ ap₂ _*_ (words-length (s .pre .0)) (spans-length (s .pre .0)))
@@ -49,10 +55,12 @@ solve-spec =
     (λ c κs. let t = c .before .before .before in (t .pre .0, (t .pre .1, length-take-le _ _ (q-room t))))  -- hessian-requires
     (λ c. e-room (c .before .before .before .before .before))  -- array-borrow-prefix-e
     (λ c. sym (length-take-le _ _ (e-room (c .before .before .before .before .before .before))))  -- slice-aggregate-anchor-columns
-    (λ c κs. let t = c .before .before .before .before .before .before in (t .pre .0, (t .pre .1, length-take-le _ _ (e-room t))))  -- anchor-columns-requires
+    (λ c κs. let t = c .before .before .before .before .before .before in
+    (t .pre .0, (t .pre .1, length-take-le _ _ (e-room t))))  -- anchor-columns-requires
     (λ c. a-room (c .before .before .before .before .before .before .before .before))  -- array-borrow-prefix-a
     (λ c. sym (length-take-le _ _ (a-room (c .before .before .before .before .before .before .before .before .before))))  -- slice-aggregate-span-columns
-    (λ c κs. let t = c .before .before .before .before .before .before .before .before .before in (t .pre .0, (t .pre .1, length-take-le _ _ (a-room t))))  -- span-columns-requires
+    (λ c κs. let t = c .before .before .before .before .before .before .before .before .before in
+    (t .pre .0, (t .pre .1, length-take-le _ _ (a-room t))))  -- span-columns-requires
     (λ c. front-room (q c) _)  -- array-share-prefix-q
     (λ c. front-long (q (c .before)) _)  -- slice-aggregate-solve-words
     (λ c. front-room (e (c .before)) _)  -- array-share-prefix-e

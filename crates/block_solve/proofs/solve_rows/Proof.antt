@@ -8,13 +8,19 @@ use Rattle.block_solve.specs.Laws.{gathered, Front, front, front-room, f
 use Rattle.block_solve.proofs.solve_rows.Statement.{statement}
 use Rattle.block_solve.proofs.solve_rows.Tie as tie
 
+abbrev start : tie.After-anchor-values → tie.Start
+start c = c .before .before .before .before .before .before .before .before .before .before .before
+
 -- the lists, in the front of their arrays
 module _ (c : tie.After-row-upper2) where
-  abbrev s : tie.Start
-  s = c .before .before .before .before .before .before .before .before .before .before .before .before .before .before .before .before .before .before
+  abbrev v : tie.After-anchor-values
+  v = c .before .before .before .before .before .before .before
 
-  values : Front (s .args .block .anchors) (c .before .before .before .before .before .before .before .anchor-values .last .1 .0) (anchorValues (blockOf (s .args .block)))
-  values = front (c .before .before .before .before .before .before .before .anchor-values .ensures) (length-anchorValues _ ∙ anchors-length (s .pre .0))
+  abbrev s : tie.Start
+  s = start v
+
+  values : Front (s .args .block .anchors) (v .anchor-values .last .1 .0) (anchorValues (blockOf (s .args .block)))
+  values = front (v .anchor-values .ensures) (length-anchorValues _ ∙ anchors-length (s .pre .0))
 
   lowers : Front (s .args .block .spans) (c .before .before .before .before .span-lowers .last .1 .0) (spanLowers (blockOf (s .args .block)))
   lowers = front (c .before .before .before .before .span-lowers .ensures) (length-spanLowers _ ∙ spans-length (s .pre .0))
@@ -27,14 +33,17 @@ solve-rows-spec =
     tie.close
     (tie.spec
     (λ c. c .before .before .before .before .before .before .before .before .before .pre .0 .anchors)  -- array-borrow-prefix-b
-    (λ c. sym (length-take-le _ _ (c .before .before .before .before .before .before .before .before .before .before .pre .0 .anchors)))  -- slice-aggregate-anchor-values
-    (λ c κs. let p = c .before .before .before .before .before .before .before .before .before .before .pre in (p .0, (p .1 .0, length-take-le _ _ (p .0 .anchors))))  -- anchor-values-requires
-    (λ c. c .before .before .before .before .before .before .before .before .before .before .before .before .pre .0 .spans)  -- array-borrow-prefix-row-lower
-    (λ c. sym (length-take-le _ _ (c .before .before .before .before .before .before .before .before .before .before .before .before .before .pre .0 .spans)))  -- slice-aggregate-span-lowers
-    (λ c κs. let p = c .before .before .before .before .before .before .before .before .before .before .before .before .before .pre in (p .0, (p .1 .0, length-take-le _ _ (p .0 .spans))))  -- span-lowers-requires
-    (λ c. c .before .before .before .before .before .before .before .before .before .before .before .before .before .before .before .pre .0 .spans)  -- array-borrow-prefix-row-upper
-    (λ c. sym (length-take-le _ _ (c .before .before .before .before .before .before .before .before .before .before .before .before .before .before .before .before .pre .0 .spans)))  -- slice-aggregate-span-uppers
-    (λ c κs. let p = c .before .before .before .before .before .before .before .before .before .before .before .before .before .before .before .before .pre in (p .0, (p .1 .0, length-take-le _ _ (p .0 .spans))))  -- span-uppers-requires
+    (λ c. let p = c .before .before .before .before .before .before .before .before .before .before .pre in
+    sym (length-take-le _ _ (p .0 .anchors)))  -- slice-aggregate-anchor-values
+    (λ c κs. let p = c .before .before .before .before .before .before .before .before .before .before .pre in
+    (p .0, (p .1 .0, length-take-le _ _ (p .0 .anchors))))  -- anchor-values-requires
+    (λ c. start (c .before) .pre .0 .spans)  -- array-borrow-prefix-row-lower
+    (λ c. sym (length-take-le _ _ (start (c .before .before) .pre .0 .spans)))  -- slice-aggregate-span-lowers
+    (λ c κs. let p = start (c .before .before) .pre in (p .0, (p .1 .0, length-take-le _ _ (p .0 .spans))))  -- span-lowers-requires
+    (λ c. start (c .before .before .before .before) .pre .0 .spans)  -- array-borrow-prefix-row-upper
+    (λ c. sym (length-take-le _ _ (start (c .before .before .before .before .before) .pre .0 .spans)))  -- slice-aggregate-span-uppers
+    (λ c κs. let p = start (c .before .before .before .before .before) .pre in
+    (p .0, (p .1 .0, length-take-le _ _ (p .0 .spans))))  -- span-uppers-requires
     (λ c. front-room (values c) _)  -- array-share-prefix-b
     (λ c. front-long (values (c .before)) _)  -- slice-aggregate-engine
     (λ c. front-room (lowers (c .before)) _)  -- array-share-prefix-row-lower

@@ -8,19 +8,25 @@ use Rattle.block_solve.specs.Laws.{Front, front, front-room, front-long,
 use Rattle.block_solve.proofs.solve_words.Statement.{statement}
 use Rattle.block_solve.proofs.solve_words.Tie as tie
 
+abbrev start : tie.After-uppers → tie.Start
+start c = c .before .before .before .before .before .before .before .before .before .before .before
+
 -- the lists, in the front of their arrays
 module _ (c : tie.After-start2) where
+  abbrev u : tie.After-uppers
+  u = c .before .before .before .before .before .before .before .before .before .before
+
   abbrev s : tie.Start
-  s = c .before .before .before .before .before .before .before .before .before .before .before .before .before .before .before .before .before .before .before .before .before
+  s = start u
 
-  linear : Front (s .args .block .words) (c .before .before .before .before .before .before .before .before .before .before .before .before .before .before .before .before .linear .last .1 .0) (Qp.linear (blockOf (s .args .block)))
-  linear = front (c .before .before .before .before .before .before .before .before .before .before .before .before .before .before .before .before .linear .ensures) (length-linear _ ∙ words-length (s .pre .0))
+  linear : Front (s .args .block .words) (u .before .before .before .before .before .before .linear .last .1 .0) (Qp.linear (blockOf (s .args .block)))
+  linear = front (u .before .before .before .before .before .before .linear .ensures) (length-linear _ ∙ words-length (s .pre .0))
 
-  lowers : Front (s .args .block .words) (c .before .before .before .before .before .before .before .before .before .before .before .before .before .lowers .last .1 .0) (Qp.lowers (blockOf (s .args .block)))
-  lowers = front (c .before .before .before .before .before .before .before .before .before .before .before .before .before .lowers .ensures) (length-lowers _ ∙ words-length (s .pre .0))
+  lowers : Front (s .args .block .words) (u .before .before .before .lowers .last .1 .0) (Qp.lowers (blockOf (s .args .block)))
+  lowers = front (u .before .before .before .lowers .ensures) (length-lowers _ ∙ words-length (s .pre .0))
 
-  uppers : Front (s .args .block .words) (c .before .before .before .before .before .before .before .before .before .before .uppers .last .1 .0) (Qp.uppers (blockOf (s .args .block)))
-  uppers = front (c .before .before .before .before .before .before .before .before .before .before .uppers .ensures) (length-uppers _ ∙ words-length (s .pre .0))
+  uppers : Front (s .args .block .words) (u .uppers .last .1 .0) (Qp.uppers (blockOf (s .args .block)))
+  uppers = front (u .uppers .ensures) (length-uppers _ ∙ words-length (s .pre .0))
 
   keys : Front (s .args .block .words) (c .before .before .before .before .before .before .before .keys .last .1 .0) (Qp.keys (blockOf (s .args .block)))
   keys = front (c .before .before .before .before .before .before .before .keys .ensures) (length-keys _ ∙ words-length (s .pre .0))
@@ -40,19 +46,24 @@ solve-words-spec =
     (λ c κs. let p = c .before .before .before .before .pre in (p .0, (p .1 .0, length-take-le _ _ (p .0 .words))))  -- linear-requires
     (λ c. c .before .before .before .before .before .before .pre .0 .words)  -- array-borrow-prefix-lower
     (λ c. sym (length-take-le _ _ (c .before .before .before .before .before .before .before .pre .0 .words)))  -- slice-aggregate-lowers
-    (λ c κs. let p = c .before .before .before .before .before .before .before .pre in (p .0, length-take-le _ _ (p .0 .words)))  -- lowers-requires
+    (λ c κs. let p = c .before .before .before .before .before .before .before .pre in
+    (p .0, length-take-le _ _ (p .0 .words)))  -- lowers-requires
     (λ c. c .before .before .before .before .before .before .before .before .before .pre .0 .words)  -- array-borrow-prefix-upper
-    (λ c. sym (length-take-le _ _ (c .before .before .before .before .before .before .before .before .before .before .pre .0 .words)))  -- slice-aggregate-uppers
-    (λ c κs. let p = c .before .before .before .before .before .before .before .before .before .before .pre in (p .0, length-take-le _ _ (p .0 .words)))  -- uppers-requires
-    (λ c. c .before .before .before .before .before .before .before .before .before .before .before .before .pre .0 .words)  -- array-borrow-prefix-at
-    (λ c. sym (length-take-le _ _ (c .before .before .before .before .before .before .before .before .before .before .before .before .before .pre .0 .words)))  -- slice-aggregate-keys
-    (λ c κs. let p = c .before .before .before .before .before .before .before .before .before .before .before .before .before .pre in (p .0, length-take-le _ _ (p .0 .words)))  -- keys-requires
-    (λ c. c .before .before .before .before .before .before .before .before .before .before .before .before .before .before .before .pre .0 .words)  -- array-borrow-prefix-slopes
-    (λ c. sym (length-take-le _ _ (c .before .before .before .before .before .before .before .before .before .before .before .before .before .before .before .before .pre .0 .words)))  -- slice-aggregate-slopes
-    (λ c κs. let p = c .before .before .before .before .before .before .before .before .before .before .before .before .before .before .before .before .pre in (p .0, length-take-le _ _ (p .0 .words)))  -- slopes-requires
-    (λ c. c .before .before .before .before .before .before .before .before .before .before .before .before .before .before .before .before .before .before .pre .0 .words)  -- array-borrow-prefix-start
-    (λ c. sym (length-take-le _ _ (c .before .before .before .before .before .before .before .before .before .before .before .before .before .before .before .before .before .before .before .pre .0 .words)))  -- slice-aggregate-starts
-    (λ c κs. let p = c .before .before .before .before .before .before .before .before .before .before .before .before .before .before .before .before .before .before .before .pre in (p .0, length-take-le _ _ (p .0 .words)))  -- starts-requires
+    (λ c. let p = c .before .before .before .before .before .before .before .before .before .before .pre in
+    sym (length-take-le _ _ (p .0 .words)))  -- slice-aggregate-uppers
+    (λ c κs. let p = c .before .before .before .before .before .before .before .before .before .before .pre in
+    (p .0, length-take-le _ _ (p .0 .words)))  -- uppers-requires
+    (λ c. start (c .before) .pre .0 .words)  -- array-borrow-prefix-at
+    (λ c. sym (length-take-le _ _ (start (c .before .before) .pre .0 .words)))  -- slice-aggregate-keys
+    (λ c κs. let p = start (c .before .before) .pre in (p .0, length-take-le _ _ (p .0 .words)))  -- keys-requires
+    (λ c. start (c .before .before .before .before) .pre .0 .words)  -- array-borrow-prefix-slopes
+    (λ c. sym (length-take-le _ _ (start (c .before .before .before .before .before) .pre .0 .words)))  -- slice-aggregate-slopes
+    (λ c κs. let p = start (c .before .before .before .before .before) .pre in
+    (p .0, length-take-le _ _ (p .0 .words)))  -- slopes-requires
+    (λ c. start (c .before .before .before .before .before .before .before) .pre .0 .words)  -- array-borrow-prefix-start
+    (λ c. sym (length-take-le _ _ (start (c .before .before .before .before .before .before .before .before) .pre .0 .words)))  -- slice-aggregate-starts
+    (λ c κs. let p = start (c .before .before .before .before .before .before .before .before) .pre in
+    (p .0, length-take-le _ _ (p .0 .words)))  -- starts-requires
     (λ c. front-room (linear c) _)  -- array-share-prefix-c
     (λ c. front-long (linear (c .before)) _)  -- slice-aggregate-solve-rows-1
     (λ c. front-room (lowers (c .before)) _)  -- array-share-prefix-lower

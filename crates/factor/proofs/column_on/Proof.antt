@@ -9,10 +9,11 @@ use Rattle.factor.proofs.column_on.Statement.{statement}
 use Rattle.factor.proofs.column_on.Tie as tie
 
 few : (c : tie.After-rising) → c .rising .result ≤ c .before .before .before .before .args .originals
-few c = rw (c .rising .ensures .0) (rising-few (c .before .before .before .before .args .originals) (c .before .before .before .before .args .s))
+few c = let s = c .before .before .before .before in rw (c .rising .ensures .0) (rising-few (s .args .originals) (s .args .s))
 
 -- the part of the array that is lent is the list
-lent : (c : tie.After-rising) → take (c .rising .result) (c .rising .last .1 .1 .0) ≡ rising (c .before .before .before .before .args .originals) (c .before .before .before .before .args .s)
+lent : (c : tie.After-rising) → let s = c .before .before .before .before in
+    take (c .rising .result) (c .rising .last .1 .1 .0) ≡ rising (s .args .originals) (s .args .s)
 lent c = taken-over _ _ (sym (c .rising .ensures .0)) (c .rising .ensures .1)
 
 slice-aggregate-select : tie.Need-slice-aggregate-select
@@ -31,7 +32,8 @@ select-requires c κs =
 returns : tie.Need-returns
 unfolding columnOn
 returns c =
-    let r = c .before .before .before .before .before .before .before in rw (c .before .before .select .ensures, c .before .before .before .before .before .column .ensures, lent r, r .rising .ensures .0)
+    let r = c .before .before .before .before .before .before .before in
+    rw (c .before .before .select .ensures, c .before .before .before .before .before .column .ensures, lent r, r .rising .ensures .0)
 
 pub column-on-spec : {M : Type 1} → statement M
 column-on-spec =

@@ -14,7 +14,8 @@ marks-length : (c : tie.Start) → length (c .args .s) ≡ Sizes.originals
 marks-length c = search needs
 
 -- there is room for one more
-room : (c : tie.After-place2) → (c .before .place .result < c .before .before .before .before .before .args .originals) × (c .place2 .result ≤ c .before .place .result)
+room : (c : tie.After-place2) → let s = c .before .before .before .before .before in
+    (c .before .place .result < s .args .originals) × (c .place2 .result ≤ c .before .place .result)
 room c =
     let s = c .before .before .before .before .before in (
       rw (c .before .place .ensures) (place-room (s .args .s) (s .args .i) (s .args .originals) (s .pre .2) (s .pre .3)),
@@ -23,7 +24,8 @@ room c =
 
 -- the column has one entry more than were held
 column-length : (c : tie.After-column-on) → let s = c .before .before .before .before .before .before .before in
-    length (columnOn (s .args .q .now) (s .args .n) (rising (s .args .originals) (set (s .args .s) (s .args .i) true)) (s .args .i)) ≡ c .before .before .before .place .result + 1
+    length (columnOn (s .args .q .now) (s .args .n) (rising (s .args .originals) (set (s .args .s) (s .args .i) true)) (s .args .i)) ≡
+    c .before .before .before .place .result + 1
 unfolding place
 column-length c =
     let s = c .before .before .before .before .before .before .before in
@@ -33,7 +35,8 @@ column-length c =
 
 -- the part of the array that is lent is the column
 lent : (c : tie.After-column-on) → let s = c .before .before .before .before .before .before .before in
-    take (c .before .before .before .place .result + 1) (c .column-on .last .1 .1 .1 .1 .1 .0) ≡ columnOn (s .args .q .now) (s .args .n) (rising (s .args .originals) (set (s .args .s) (s .args .i) true)) (s .args .i)
+    take (c .before .before .before .place .result + 1) (c .column-on .last .1 .1 .1 .1 .1 .0) ≡
+    columnOn (s .args .q .now) (s .args .n) (rising (s .args .originals) (set (s .args .s) (s .args .i) true)) (s .args .i)
 lent c = taken-over _ _ (column-length c) (c .column-on .ensures)
 
 slice-aggregate-insert-column : tie.Need-slice-aggregate-insert-column
@@ -68,8 +71,10 @@ joined-spec =
     (λ c. let s = c .before .before .before .before .before in omega (arith, s .pre .0 .few, s .pre .2))  -- array-write-next
     (λ c. search kit)  -- slice-aggregate-column-on
     (λ c κs. let s = c .before .before .before .before .before .before in (s .pre .0, s .pre .2, omega (arith, s .pre .0 .few)))  -- column-on-requires
-    (λ c. let y = c .before in omega (arith, room (y .before .before), y .before .before .before .before .before .before .before .pre .0 .few))  -- add-m
-    (λ c. let y = c .before .before in omega (arith, room (y .before .before), y .before .before .before .before .before .before .before .pre .0 .few))  -- array-share-prefix-y
+    (λ c. let y = c .before in
+    omega (arith, room (y .before .before), y .before .before .before .before .before .before .before .pre .0 .few))  -- add-m
+    (λ c. let y = c .before .before in
+    omega (arith, room (y .before .before), y .before .before .before .before .before .before .before .pre .0 .few))  -- array-share-prefix-y
     slice-aggregate-insert-column  -- slice-aggregate-insert-column
     insert-column-requires  -- insert-column-requires
     (λ c. search kit)  -- same-length

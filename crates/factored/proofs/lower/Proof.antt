@@ -11,7 +11,8 @@ slice-aggregate-copy : tie.Need-slice-aggregate-copy
 slice-aggregate-copy c = search needs
 
 -- the part of the array that is lent is the copy
-lent : (c : tie.After-copy) → take (c .before .before .before .before .args .n) (c .copy .last .1 .1 .0) ≡ copy (c .before .before .before .before .args .n) (c .before .before .before .before .args .c .now)
+lent : (c : tie.After-copy) → let s = c .before .before .before .before in
+    take (s .args .n) (c .copy .last .1 .1 .0) ≡ copy (s .args .n) (s .args .c .now)
 lent c = taken-over _ _ (length-copy _ _) (c .copy .ensures)
 
 slice-aggregate-solve-lower-triangular : tie.Need-slice-aggregate-solve-lower-triangular
@@ -19,8 +20,10 @@ slice-aggregate-solve-lower-triangular c = rw (lent (c .before .before)) (sym (l
 
 returns : tie.Need-returns
 returns c =
-    rw (← lent (c .before .before .before .before))
-    (lower-taken _ _ (c .before .before .before .before .before .before .before .before .pre .2) _ _ (sym (slice-aggregate-solve-lower-triangular (c .before .before))) (c .before .solve-lower-triangular .ensures))
+    let l = c .before .before .before .before in
+    rw (← lent l)
+    (lower-taken _ _ (l .before .before .before .before .pre .2) _ _ (sym (slice-aggregate-solve-lower-triangular (c .before .before)))
+    (c .before .solve-lower-triangular .ensures))
 
 pub lower-spec : {M : Type 1} → statement M
 lower-spec =

@@ -11,6 +11,9 @@ x-length c = search needs
 multipliers-length : (c : tie.Start) → length (c .args .t12) ≡ Sizes.columns
 multipliers-length c = search needs
 
+abbrev start : tie.After-solve → tie.Start
+start c = c .before .before .before .before .before .before .before .before .before .before .before .before .before .before .before .before
+
 step-length : (c : tie.After-solve) → (length (c .solve .result .x) ≡ Sizes.variables) × (length (c .solve .result .multipliers) ≡ Sizes.columns)
 step-length c = (search needs, search needs)
 
@@ -59,53 +62,33 @@ solve-requires c κs = (
 
 slice-aggregate-add : tie.Need-slice-aggregate-add
 slice-aggregate-add c =
-    sym (length-take-le _ _
-    (omega (
-      arith,
-      c .before .before .before .before .before .before .before .before .before .before .before .before .before .before .before .before .before .before .before .pre .0 .few,
-      x-length (c .before .before .before .before .before .before .before .before .before .before .before .before .before .before .before .before .before .before .before),
-    )))
+    let s = start (c .before .before .before) in sym (length-take-le _ _ (omega (arith, s .pre .0 .few, x-length s)))
 
 slice-aggregate-add-2 : tie.Need-slice-aggregate-add-2
 slice-aggregate-add-2 c =
-    sym (length-take-le _ _
-    (omega (
-      arith,
-      c .before .before .before .before .before .before .before .before .before .before .before .before .before .before .before .before .before .before .before .before .pre .0 .few,
-      step-length (c .before .before .before .before),
-    )))
+    let d = c .before .before .before .before in sym (length-take-le _ _ (omega (arith, start d .pre .0 .few, step-length d)))
 
 add-requires : tie.Need-add-requires
 add-requires c κs = (
-  omega (
-    arith,
-    c .before .before .before .before .before .before .before .before .before .before .before .before .before .before .before .before .before .before .before .before .pre .0 .few,
-  ),
+  omega (arith, start (c .before .before .before .before) .pre .0 .few),
   omega (arith, slice-aggregate-add (c .before)),
   omega (arith, slice-aggregate-add-2 c),
 )
 
 slice-aggregate-added : tie.Need-slice-aggregate-added
 slice-aggregate-added c =
-    sym (length-take-le _ _
-    (omega (
-      arith,
-      c .before .before .before .before .before .before .before .before .before .before .before .before .before .before .before .before .before .before .before .before .before .before .pre .0 .columns,
-      multipliers-length (c .before .before .before .before .before .before .before .before .before .before .before .before .before .before .before .before .before .before .before .before .before .before),
-    )))
+    let s = start (c .before .before .before .before .before .before) in sym (length-take-le _ _ (omega (arith, s .pre .0 .columns, multipliers-length s)))
 
 slice-aggregate-added-2 : tie.Need-slice-aggregate-added-2
 slice-aggregate-added-2 c =
-    sym (length-take-le _ _
-    (omega (
-      arith,
-      c .before .before .before .before .before .before .before .before .before .before .before .before .before .before .before .before .before .before .before .before .before .before .before .pre .0 .columns,
-      step-length (c .before .before .before .before .before .before .before),
-    )))
+    let d = c .before .before .before .before .before .before .before in sym (length-take-le _ _ (omega (arith, start d .pre .0 .columns, step-length d)))
 
 added-requires : tie.Need-added-requires
-added-requires c κs =
-    (c .before .before .before .before .before .before .before .before .before .before .before .before .before .before .before .before .before .before .before .before .before .before .before .pre .0 .columns, omega (arith, slice-aggregate-added (c .before)), omega (arith, slice-aggregate-added-2 c))
+added-requires c κs = (
+  start (c .before .before .before .before .before .before .before) .pre .0 .columns,
+  omega (arith, slice-aggregate-added (c .before)),
+  omega (arith, slice-aggregate-added-2 c),
+)
 
 returns : tie.Need-returns
 unfolding refine added
@@ -130,7 +113,8 @@ refine-spec =
     (λ c. omega (arith, c .before .before .before .before .before .before .before .before .before .before .before .pre .0 .few))  -- array-share-prefix-x-2
     slice-aggregate-left-of-b  -- slice-aggregate-left-of-b
     left-of-b-requires  -- left-of-b-requires
-    (λ c. omega (arith, c .before .before .before .before .before .before .before .before .before .before .before .before .before .pre .0 .few))  -- array-share-prefix-left-c
+    (λ c. let p = c .before .before .before .before .before .before .before .before .before .before .before .before .before .pre .0 in
+    omega (arith, p .few))  -- array-share-prefix-left-c
     slice-aggregate-solve  -- slice-aggregate-solve
     (λ c. omega (
       arith,
@@ -138,30 +122,14 @@ refine-spec =
     ))  -- array-share-prefix-left-b
     slice-aggregate-solve-2  -- slice-aggregate-solve-2
     solve-requires  -- solve-requires
-    (λ c. omega (
-      arith,
-      c .before .before .before .before .before .before .before .before .before .before .before .before .before .before .before .before .before .before .pre .0 .few,
-      x-length (c .before .before .before .before .before .before .before .before .before .before .before .before .before .before .before .before .before .before),
-    ))  -- array-share-prefix-x-3
+    (λ c. let s = start (c .before .before) in omega (arith, s .pre .0 .few, x-length s))  -- array-share-prefix-x-3
     slice-aggregate-add  -- slice-aggregate-add
-    (λ c. omega (
-      arith,
-      c .before .before .before .before .before .before .before .before .before .before .before .before .before .before .before .before .before .before .before .pre .0 .few,
-      step-length (c .before .before .before),
-    ))  -- array-share-prefix-dx
+    (λ c. let d = c .before .before .before in omega (arith, start d .pre .0 .few, step-length d))  -- array-share-prefix-dx
     slice-aggregate-add-2  -- slice-aggregate-add-2
     add-requires  -- add-requires
-    (λ c. omega (
-      arith,
-      c .before .before .before .before .before .before .before .before .before .before .before .before .before .before .before .before .before .before .before .before .before .pre .0 .columns,
-      multipliers-length (c .before .before .before .before .before .before .before .before .before .before .before .before .before .before .before .before .before .before .before .before .before),
-    ))  -- array-share-prefix-multipliers-2
+    (λ c. let s = start (c .before .before .before .before .before) in omega (arith, s .pre .0 .columns, multipliers-length s))  -- array-share-prefix-multipliers-2
     slice-aggregate-added  -- slice-aggregate-added
-    (λ c. omega (
-      arith,
-      c .before .before .before .before .before .before .before .before .before .before .before .before .before .before .before .before .before .before .before .before .before .before .pre .0 .columns,
-      step-length (c .before .before .before .before .before .before),
-    ))  -- array-share-prefix-dm
+    (λ c. let d = c .before .before .before .before .before .before in omega (arith, start d .pre .0 .columns, step-length d))  -- array-share-prefix-dm
     slice-aggregate-added-2  -- slice-aggregate-added-2
     added-requires  -- added-requires
     returns)  -- returns

@@ -46,7 +46,8 @@ solve-spec =
     (λ c. omega (arith, c .before .before .before .before .before .before .before .before .before .before .pre .0 .columns))  -- array-share-prefix-scaled
     slice-aggregate-upper-2  -- slice-aggregate-upper-2
     upper-requires  -- upper-requires
-    (λ c. omega (arith, c .before .before .before .before .before .before .before .before .before .before .before .before .pre .0 .columns))  -- array-share-prefix-scaled-2
+    (λ c. let p = c .before .before .before .before .before .before .before .before .before .before .before .before .pre .0 in
+    omega (arith, p .columns))  -- array-share-prefix-scaled-2
     slice-aggregate-multipliers  -- slice-aggregate-multipliers
     (λ c κs. let p = c .before .before .before .before .before .before .before .before .before .before .before .before .before .pre .0 in
     (p .columns, omega (arith, slice-aggregate-multipliers c), p .by-holds))  -- multipliers-requires

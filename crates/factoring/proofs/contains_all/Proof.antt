@@ -24,7 +24,10 @@ returns c =
     let t = c .before .before .before .loop .t in
     let h = c .before .before .loop-test .taken in
     all-stop _ _ _ h
-    (rw (← marked-marks Sizes.originals (s .args .indices .now) (index (s .args .s .now) t) (s .pre .1 t h), ← c .before .before .before .before .marks .ensures) (not-true _ (c .if1 .taken)))
+    (rw (
+      ← marked-marks Sizes.originals (s .args .indices .now) (index (s .args .s .now) t) (s .pre .1 t h),
+      ← c .before .before .before .before .marks .ensures,
+    ) (not-true _ (c .if1 .taken)))
 
 loop-again : tie.Need-loop-again Inv-loop μ-loop
 loop-again c =
@@ -33,7 +36,10 @@ loop-again c =
     let h = c .before .before .loop-test .taken in (
       search needs,
       all-turn _ _ (c .before .before .before .loop .inv .1)
-          (rw (← marked-marks Sizes.originals (s .args .indices .now) (index (s .args .s .now) t) (s .pre .1 t h), ← c .before .before .before .before .marks .ensures) (not-false _ (c .if1 .left))),
+          (rw (
+            ← marked-marks Sizes.originals (s .args .indices .now) (index (s .args .s .now) t) (s .pre .1 t h),
+            ← c .before .before .before .before .marks .ensures,
+          ) (not-false _ (c .if1 .left))),
     )
 
 pub contains-all-spec : {M : Type 1} → statement M

@@ -19,7 +19,8 @@ contains-singular-spec =
     tie.close
     (tie.spec
     (λ c. let s = c .before .before .before in omega (arith, s .pre .2 .fits, list-length s))  -- array-share-prefix-list
-    (λ c. let s = c .before .before .before .before in sym (length-take-le _ _ (omega (arith, s .pre .2 .fits, list-length s))))  -- slice-aggregate-contains-all
+    (λ c. let s = c .before .before .before .before in
+    sym (length-take-le _ _ (omega (arith, s .pre .2 .fits, list-length s))))  -- slice-aggregate-contains-all
     contains-all-requires  -- contains-all-requires
     (λ c. rw (c .before .before .before .if1 .taken) (c .contains-all .ensures))  -- returns
     (λ c. rw (c .if1 .left)))  -- returns-2

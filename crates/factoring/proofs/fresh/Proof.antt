@@ -29,7 +29,8 @@ fresh-spec =
     (λ c. omega (arith, c .before .before .before .before .before .before .before .before .pre .3))  -- slice-reshare-prefix-select-columns
     slice-aggregate-select-columns  -- slice-aggregate-select-columns
     select-columns-requires  -- select-columns-requires
-    (λ c κs. omega (arith, c .before .before .before .before .before .before .before .before .before .before .before .before .before .before .pre .2))  -- definite-requires
+    (λ c κs. let p = c .before .before .before .before .before .before .before .before .before .before .before .before .before .before .pre in
+    omega (arith, p .2))  -- definite-requires
     (λ c. search kit) (λ c. search kit)
     (λ c. rw (
       ← lent (c .before .before .before .before .before .before .before .before .before .before .before),

@@ -41,7 +41,7 @@ write-answer-spec =
     let s = c .before .before .before .before .before .before .before .before .before .before in
     (s .pre .1 .times, s .pre .1 .prices, s .pre .1 .passes))  -- write-requires
     (λ c. search needs)  -- same-length
-    (λ c. (
-      written-is _ (toZ-ofZ (gap-fits (c .before .before .before .before .before .before .before .before .before .before .before .before .before))) (c .before .before .write .ensures),
-      c .before .before .before .before .before .before .before .file-size .ensures,
+    (λ c. let z = c .before .before .before .before .before .before .before in (
+      written-is _ (toZ-ofZ (gap-fits (z .before .before .before .before .before .before))) (c .before .before .write .ensures),
+      z .file-size .ensures,
     )))  -- returns

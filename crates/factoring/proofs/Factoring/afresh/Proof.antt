@@ -28,11 +28,25 @@ afresh-spec =
     (λ c κs. search kit)  -- reset-requires
     (λ c. rw (← c .before .before .contains-singular .ensures, c .before .if1 .taken, c .reset .ensures))  -- returns
     fresh-requires  -- fresh-requires
-    (λ c κs. let s = c .before .before .before .before .before .before .before .before .before .before .before .before .before .before .before in omega (arith, listed s, s .pre .0 .few))  -- with-factor-requires
+    (λ c κs. let s = c .before .before .before .before .before .before .before .before .before .before .before .before .before .before .before in
+    omega (arith, listed s, s .pre .0 .few))  -- with-factor-requires
     (λ c. search kit)  -- same-length
     (λ c. search kit)  -- same-length-2
-    (λ c. rw (← c .before .before .before .before .before .before .before .before .before .before .contains-singular .ensures, c .before .before .before .before .before .before .before .before .before .if1 .left, ← c .before .before .before .before .before .before .fresh .ensures, c .before .if2 .taken, c .with-factor .ensures))  -- returns-2
-    (λ c κs. let s = c .before .before .before .before .before .before .before .before .before .before .before .before .before .before .before in omega (arith, listed s, s .pre .0 .few))  -- with-singular-requires
+    (λ c. rw (
+      ← c .before .before .before .before .before .before .before .before .before .before .contains-singular .ensures,
+      c .before .before .before .before .before .before .before .before .before .if1 .left,
+      ← c .before .before .before .before .before .before .fresh .ensures,
+      c .before .if2 .taken,
+      c .with-factor .ensures,
+    ))  -- returns-2
+    (λ c κs. let s = c .before .before .before .before .before .before .before .before .before .before .before .before .before .before .before in
+    omega (arith, listed s, s .pre .0 .few))  -- with-singular-requires
     (λ c. search kit)  -- same-length-3
     (λ c. search kit)  -- same-length-4
-    (λ c. rw (← c .before .before .before .before .before .before .before .before .before .before .contains-singular .ensures, c .before .before .before .before .before .before .before .before .before .if1 .left, ← c .before .before .before .before .before .before .fresh .ensures, c .before .if2 .left, c .with-singular .ensures)))  -- returns-3
+    (λ c. rw (
+      ← c .before .before .before .before .before .before .before .before .before .before .contains-singular .ensures,
+      c .before .before .before .before .before .before .before .before .before .if1 .left,
+      ← c .before .before .before .before .before .before .fresh .ensures,
+      c .before .if2 .left,
+      c .with-singular .ensures,
+    )))  -- returns-3
