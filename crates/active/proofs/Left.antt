@@ -11,9 +11,10 @@ use Rattle.iterate.specs.Problem.{Problem, problem, Room}
 use Rattle.iterate.specs.declared.Iterate.{Iterate}
 use Rattle.factoring.specs.declared.Factoring.{Factoring}
 use Rattle.factoring.specs.Kept.{new}
-use Rattle.pass.specs.declared.Made.{Made}
-use Rattle.pass.specs.Pass.{State, state, madeOf, pass}
-use Rattle.pass.specs.Laws.{made-beside}
+use Rattle.free_pass.specs.declared.Made.{Made}
+use Rattle.free_pass.specs.FreePass.{State, state, madeOf}
+use Rattle.pass.specs.Pass.{pass}
+use Rattle.free_pass.specs.Laws.{made-beside}
 use Rattle.active.specs.declared.Answer as Declared
 use Rattle.active.specs.declared.Verdict.the-variants.{NotConverged}
 use Rattle.active.specs.Answer.{Answer, answerOf}

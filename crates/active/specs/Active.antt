@@ -23,7 +23,8 @@ use Rattle.iterate.specs.declared.Iterate.{Iterate}
 use Rattle.iterate.specs.declared.Ending.{Ending}
 use Rattle.iterate.specs.declared.Ending.the-variants as Ending
 use Rattle.iterate.specs.declared.Passed.{Passed}
-use Rattle.pass.specs.Pass.{State, state, beside, pass}
+use Rattle.free_pass.specs.FreePass.{State, state, beside}
+use Rattle.pass.specs.Pass.{pass}
 use Rattle.active.specs.declared.Answer as Declared
 use Rattle.active.specs.Answer.{Answer, optimal, nonFinite, singular, unbounded, notConverged, answerOf}
 

@@ -39,13 +39,14 @@ pub record Gathered : Type 0 where
   pub «e_free» : List Float
 
 -- what counts of what the code leaves, with k variables solved and m columns
-unfoldable pub gatheredOf : (k m : ℕ) → Free → (qFree eFree : List Float) → Gathered
-gatheredOf k m r qFree eFree = record {
-  c = take k (r .c);
-  gradient = take k (r .gradient);
-  residuals = take m (r .residuals);
-  kept = take (r .columns) (r .kept);
-  residual = take (r .columns) (r .residual);
+unfoldable pub gatheredOf : (k m : ℕ) → Free → (qFree eFree cFree gradientFree residuals : List Float) (kept : List ℕ) (residual : List Float) →
+    Gathered
+gatheredOf k m r qFree eFree cFree gradientFree residuals kept residual = record {
+  c = take k cFree;
+  gradient = take k gradientFree;
+  residuals = take m residuals;
+  kept = take (r .columns) kept;
+  residual = take (r .columns) residual;
   noise = r .noise;
   «q_free» = take (k * k) qFree;
   «e_free» = take (k * r .columns) eFree;
@@ -68,14 +69,3 @@ gather (problem originals n m q c e b) x solved slacks slope =
       «q_free» = block n n q solved solved;
       «e_free» = block n m e solved columns;
     }
-
--- the vectors, given Q's rows and the columns kept
-pub record Vectors (n m : ℕ) (qRows c e b : List Float) (originals : ℕ) (x : List Float) (solved : List ℕ) (slope : List Float)
-    (kept : List ℕ) (columns : ℕ) (r : Free) : Type 0 where
-  pub linear-is : take (length solved) (r .c) ≡ linear c solved slope
-  pub gradient-is : take (length solved) (r .gradient) ≡ gradient (length solved) n qRows (linear c solved slope) x
-  pub residuals-are : take m (r .residuals) ≡ residuals n m e b x
-  pub kept-are : r .kept ≡ kept
-  pub columns-are : r .columns ≡ columns
-  pub residual-is : take columns (r .residual) ≡ select columns (residuals n m e b x) (take columns kept)
-  pub noise-is : r .noise ≡ stepNoise qRows (length solved) n x originals (linear c solved slope)

@@ -4,15 +4,15 @@ use mathlib.Core.List.{List}
 use Prim.Native.Nat.{ℕ, _*_, _≤_}
 use lib.Ieee.{Float}
 use lib.ListN.{length, take}
-use Rattle.vector.specs.Vector.{Below}
+use Rattle.vector.specs.Vector.{Below, select}
 use Rattle.vector.specs.Laws.{length-sub, length-select}
 use Rattle.matrix.specs.Matrix.{selectRows}
 use Rattle.matrix.specs.Laws.{length-selectColumns}
-use Rattle.slack_rows.specs.SlackRows.{keptColumns}
+use Rattle.slack_rows.specs.SlackRows.{keptColumns, stepNoise}
 use Rattle.slack_rows.specs.Laws as SlackRows
 use Rattle.iterate.specs.Problem.{problem, firstSlackColumn}
 use Rattle.free_problem.specs.declared.Free.{Free}
-use Rattle.free_problem.specs.FreeProblem.{block, linear, gradient, residuals, Gathered, gatheredOf, gather, Vectors}
+use Rattle.free_problem.specs.FreeProblem.{block, linear, gradient, residuals, Gathered, gatheredOf, gather}
 
 -- ---- lengths
 pub length-block : (n m : ℕ) (a : List Float) (rows columns : List ℕ) → length (block n m a rows columns) ≡ length rows * length columns
@@ -63,46 +63,44 @@ module _ (originals n m : ℕ) (q c e b x : List Float) (solved slacks : List �
   kept-below = SlackRows.kept-below e n m solved slacks originals (firstSlackColumn originals n m)
 
   -- ---- what the calls leave
-  pub gather-from : {qRows : List Float} {kept : List ℕ} {count : ℕ} {r : Free} (qFree eFree : List Float) → count ≡ length columns →
-      take count kept ≡ columns → qRows ≡ selectRows n n q (length solved) solved →
-      Vectors n m qRows c e b originals x solved slope kept count r → take (length solved * length solved) qFree ≡ block n n q solved solved →
-      take (length solved * length (take count kept)) eFree ≡ block n m e solved (take count kept) →
-      gatheredOf (length solved) m r qFree eFree ≡ whole
+  pub gather-from : {qRows : List Float} (r : Free) (qFree eFree cFree gradientFree left : List Float) (kept : List ℕ) (residual : List Float) →
+      r .columns ≡ length columns →
+      take (r .columns) kept ≡ columns → qRows ≡ selectRows n n q (length solved) solved →
+      take (length solved * length solved) qFree ≡ block n n q solved solved →
+      take (length solved * length (take (r .columns) kept)) eFree ≡ block n m e solved (take (r .columns) kept) →
+      take (length solved) cFree ≡ linear c solved slope →
+      take (length solved) gradientFree ≡ gradient (length solved) n qRows (take (length solved) cFree) x → take m left ≡ residuals n m e b x →
+      take (r .columns) residual ≡ select (r .columns) (take m left) (take (r .columns) kept) →
+      r .noise ≡ stepNoise qRows (length solved) n x originals (take (length solved) cFree) →
+      gatheredOf (length solved) m r qFree eFree cFree gradientFree left kept residual ≡ whole
   unfolding gatheredOf gather
-  gather-from qFree eFree counted listed rows v f g =
-      let h : take (length solved * length columns) eFree ≡ block n m e solved columns = rw listed at g in
-      rw (v .columns-are, v .kept-are, v .linear-is, v .gradient-is, v .residuals-are, v .residual-is, v .noise-is, listed, counted, f, h, rows)
+  gather-from r qFree eFree cFree gradientFree left kept residual counted listed rows square entries linear-is gradient-is residuals-are residual-is noise-is =
+      let h : take (length solved * length columns) eFree ≡ block n m e solved columns = rw listed at entries in
+      rw (gradient-is, residual-is, noise-is, linear-is, residuals-are, listed, counted, square, h, rows)
 
 -- ---- each part, of what the code leaves
-module _ {g : Gathered} (k m : ℕ) (r : Free) (qFree eFree : List Float) (e : gatheredOf k m r qFree eFree ≡ g) where
-  pub taken-c : take k (r .c) ≡ g .c
-  unfolding gatheredOf
-  taken-c = ap (λ (z : Gathered). z .c) e
-
-  pub taken-gradient : take k (r .gradient) ≡ g .gradient
-  unfolding gatheredOf
-  taken-gradient = ap (λ (z : Gathered). z .gradient) e
-
-  pub taken-residuals : take m (r .residuals) ≡ g .residuals
-  unfolding gatheredOf
-  taken-residuals = ap (λ (z : Gathered). z .residuals) e
-
-  pub taken-kept : take (r .columns) (r .kept) ≡ g .kept
-  unfolding gatheredOf
-  taken-kept = ap (λ (z : Gathered). z .kept) e
-
-  pub taken-residual : take (r .columns) (r .residual) ≡ g .residual
-  unfolding gatheredOf
-  taken-residual = ap (λ (z : Gathered). z .residual) e
-
+pub record Parts (k m : ℕ) (r : Free) (qFree eFree cFree gradientFree left : List Float) (kept : List ℕ) (residual : List Float) (g : Gathered) :
+    Type 0 where
+  pub linear-is : take k cFree ≡ g .c
+  pub gradient-is : take k gradientFree ≡ g .gradient
+  pub residuals-are : take m left ≡ g .residuals
+  pub kept-are : take (r .columns) kept ≡ g .kept
+  pub residual-is : take (r .columns) residual ≡ g .residual
   pub noise-is : r .noise ≡ g .noise
-  unfolding gatheredOf
-  noise-is = ap (λ (z : Gathered). z .noise) e
+  pub square-is : take (k * k) qFree ≡ g .«q_free»
+  pub entries-are : take (k * r .columns) eFree ≡ g .«e_free»
 
-  pub taken-q : take (k * k) qFree ≡ g .«q_free»
-  unfolding gatheredOf
-  taken-q = ap (λ (z : Gathered). z .«q_free») e
-
-  pub taken-e : take (k * r .columns) eFree ≡ g .«e_free»
-  unfolding gatheredOf
-  taken-e = ap (λ (z : Gathered). z .«e_free») e
+pub parts : {g : Gathered} (k m : ℕ) (r : Free) (qFree eFree cFree gradientFree left : List Float) (kept : List ℕ) (residual : List Float) →
+    gatheredOf k m r qFree eFree cFree gradientFree left kept residual ≡ g → Parts k m r qFree eFree cFree gradientFree left kept residual g
+unfolding gatheredOf
+parts k m r qFree eFree cFree gradientFree left kept residual e =
+    record {
+      linear-is = ap (λ (z : Gathered). z .c) e;
+      gradient-is = ap (λ (z : Gathered). z .gradient) e;
+      residuals-are = ap (λ (z : Gathered). z .residuals) e;
+      kept-are = ap (λ (z : Gathered). z .kept) e;
+      residual-is = ap (λ (z : Gathered). z .residual) e;
+      noise-is = ap (λ (z : Gathered). z .noise) e;
+      square-is = ap (λ (z : Gathered). z .«q_free») e;
+      entries-are = ap (λ (z : Gathered). z .«e_free») e;
+    }

@@ -4,33 +4,16 @@ ghost use mathlib.Core.Path.{_≡_};
 ghost use Prim.Native.Nat.{_≤_, _*_};
 ghost use lib.ListN.{length, take};
 ghost use Rattle.sizes.specs.Sizes as Sizes;
-ghost use Rattle.vector.specs.Vector.{Below, select};
+ghost use Rattle.vector.specs.Vector.{Below};
 ghost use Rattle.matrix.specs.Matrix.{selectRows};
 ghost use Rattle.slack_rows.specs.SlackRows.{Rows, Solved, keptColumns};
 ghost use Rattle.iterate.specs.Problem.{Shaped, firstSlackColumn, problem};
 ghost use Rattle.free_problem.specs.FreeProblem as Definition;
 
-// The gradient of the free problem at x, its constraints' residual, and what its solve needs to know.
+// What the free problem's solve needs to know beside its lists: how many columns are kept, and the noise of its right side.
 pub struct Free {
-    // The linear term on the variables solved, and the gradient there.
-    pub c: [f64; sizes::VARIABLES],
-    pub gradient: [f64; sizes::VARIABLES],
-    // b - Eᵀx, the columns kept, and what of it they have.
-    pub residuals: [f64; sizes::VARIABLES],
-    pub kept: [usize; sizes::COLUMNS],
     pub columns: usize,
-    pub residual: [f64; sizes::VARIABLES],
     pub noise: f64,
-}
-
-// The elements of a (n of them) that `list` names.
-pub fn selected(a: &[f64], n: usize, list: &[usize]) -> [f64; sizes::VARIABLES]
-    requires { ⌜ (n ≤ length (now a)) × (length (now list) ≤ Sizes.variables) × Below (length (now list)) (now list) n ⌝ }
-    ensures { λ r. ⌜ take (length (now (list .entry))) r ≡ select (length (now (list .entry))) (now (a .entry)) (now (list .entry)) ⌝ }
-{
-    let mut y = [0.0; sizes::VARIABLES];
-    vector::select(a, n, list, list.len(), &mut y);
-    y
 }
 
 // The block of a (n by m) on the rows `rows` and the columns `columns`, over the start of y; the rows stand in room.
@@ -59,90 +42,51 @@ fn block(
     matrix::select_columns(&room[..entries], k, m, columns, columns.len(), y);
 }
 
-// c.select_rows(solved) - slope
-fn linear(c: &[f64], n: usize, solved: &[usize], slope: &[f64]) -> [f64; sizes::VARIABLES]
+// c.select_rows(solved) - slope, over the start of y
+fn linear(c: &[f64], n: usize, solved: &[usize], slope: &[f64], y: &mut [f64])
     requires { ⌜ (n ≤ length (now c))
-        × (length (now solved) ≤ Sizes.variables)
+        × (length (now solved) ≤ Sizes.originals)
         × Below (length (now solved)) (now solved) n
-        × (length (now solved) ≤ length (now slope)) ⌝ }
-    ensures { λ r. ⌜ take (length (now (solved .entry))) r
+        × (length (now solved) ≤ length (now slope))
+        × (length (now solved) ≤ length (now y)) ⌝ }
+    ensures { λ _. ⌜ take (length (now (solved .entry))) (now (y .exit))
         ≡ Definition.linear (now (c .entry)) (now (solved .entry)) (now (slope .entry)) ⌝ }
 {
     let k = solved.len();
-    let cs = selected(c, n, solved);
-    dense::sub(&cs[..k], slope, k)
+    let mut cs = [0.0; sizes::ORIGINALS];
+    vector::select(c, n, solved, k, &mut cs);
+    vector::sub(&cs[..k], slope, k, y);
 }
 
-// c - q_rows * x, with k rows of n entries
-fn gradient(q_rows: &[f64], c: &[f64], k: usize, n: usize, x: &[f64]) -> [f64; sizes::VARIABLES]
-    requires { ⌜ (k ≤ Sizes.variables)
+// c - q_rows * x, with k rows of n entries, over the start of y
+fn gradient(q_rows: &[f64], c: &[f64], k: usize, n: usize, x: &[f64], y: &mut [f64])
+    requires { ⌜ (k ≤ Sizes.originals)
         × (k * n ≤ length (now «q_rows»))
         × (k ≤ length (now c))
-        × (n ≤ length (now x)) ⌝ }
-    ensures { λ r. ⌜ take k r ≡ Definition.gradient k n (now («q_rows» .entry)) (now (c .entry)) (now (x .entry)) ⌝ }
+        × (n ≤ length (now x))
+        × (k ≤ length (now y)) ⌝ }
+    ensures { λ _. ⌜ take k (now (y .exit)) ≡ Definition.gradient k n (now («q_rows» .entry)) (now (c .entry)) (now (x .entry)) ⌝ }
 {
-    let qx = dense::mul_vec(q_rows, k, n, x);
-    dense::sub(c, &qx[..k], k)
+    let mut qx = [0.0; sizes::ORIGINALS];
+    matrix::mul_vec(q_rows, k, n, x, &mut qx);
+    vector::sub(c, &qx[..k], k, y);
 }
 
-// b - e.transpose() * x
-fn residuals(e: &[f64], b: &[f64], n: usize, m: usize, x: &[f64]) -> [f64; sizes::VARIABLES]
-    requires { ⌜ (m ≤ Sizes.columns) × (n * m ≤ length (now e)) × (m ≤ length (now b)) × (n ≤ length (now x)) ⌝ }
-    ensures { λ r. ⌜ take m r ≡ Definition.residuals n m (now (e .entry)) (now (b .entry)) (now (x .entry)) ⌝ }
-{
-    let ex = dense::tr_mul_vec(e, n, m, x);
-    dense::sub(b, &ex[..m], m)
-}
-
-// The vectors of the free problem, given Q's rows on the variables solved and the columns kept.
-fn vectors(
-    q_rows: &[f64],
-    c: &[f64],
-    e: &[f64],
-    b: &[f64],
-    n: usize,
-    m: usize,
-    originals: usize,
-    x: &[f64],
-    solved: &[usize],
-    slope: &[f64],
-    kept: [usize; sizes::COLUMNS],
-    columns: usize,
-) -> Free
-    requires { ⌜ (n ≤ Sizes.variables)
-        × (m ≤ Sizes.columns)
-        × (originals ≤ n)
-        × (length (now solved) ≤ originals)
-        × (length (now solved) * n ≤ length (now «q_rows»))
-        × (n ≤ length (now c))
+// b - e.transpose() * x, over the start of y
+fn residuals_at(e: &[f64], b: &[f64], n: usize, m: usize, x: &[f64], y: &mut [f64])
+    requires { ⌜ (m ≤ Sizes.columns)
         × (n * m ≤ length (now e))
         × (m ≤ length (now b))
         × (n ≤ length (now x))
-        × Below (length (now solved)) (now solved) n
-        × (length (now solved) ≤ length (now slope))
-        × (columns ≤ m)
-        × Below (length (take columns kept)) (take columns kept) m ⌝ }
-    ensures { λ r. ⌜ Definition.Vectors n m (now («q_rows» .entry)) (now (c .entry)) (now (e .entry)) (now (b .entry)) originals
-        (now (x .entry)) (now (solved .entry)) (now (slope .entry)) kept columns r ⌝ }
+        × (m ≤ length (now y)) ⌝ }
+    ensures { λ _. ⌜ take m (now (y .exit)) ≡ Definition.residuals n m (now (e .entry)) (now (b .entry)) (now (x .entry)) ⌝ }
 {
-    let k = solved.len();
-    let c_free = linear(c, n, solved, slope);
-    let gradient = gradient(q_rows, &c_free[..k], k, n, x);
-    let residuals = residuals(e, b, n, m, x);
-    let residual = selected(&residuals[..m], m, &kept[..columns]);
-    let noise = slack_rows::step_noise(q_rows, k, n, x, originals, &c_free[..k]);
-    Free {
-        c: c_free,
-        gradient: gradient,
-        residuals: residuals,
-        kept: kept,
-        columns: columns,
-        residual: residual,
-        noise: noise,
-    }
+    let mut ex = [0.0; sizes::COLUMNS];
+    matrix::tr_mul_vec(e, n, m, x, &mut ex);
+    vector::sub(b, &ex[..m], m, y);
 }
 
-// The free problem: Q's and E's blocks stand over the starts of q_free and e_free, and Q's rows in room.
+// The free problem, over the starts of the slices from q_free on; Q's rows stand in room.
 pub fn gather(
     q: &[f64],
     c: &[f64],
@@ -158,6 +102,11 @@ pub fn gather(
     room: &mut [f64],
     q_free: &mut [f64],
     e_free: &mut [f64],
+    c_free: &mut [f64],
+    gradient_free: &mut [f64],
+    residuals: &mut [f64],
+    kept: &mut [usize],
+    residual: &mut [f64],
 ) -> Free
     requires { ⌜ Shaped originals n m (now q) (now c) (now e) (now b)
         × (n ≤ length (now x))
@@ -168,8 +117,14 @@ pub fn gather(
         × (originals * n ≤ length (now room))
         × (originals * m ≤ length (now room))
         × (originals * originals ≤ length (now «q_free»))
-        × (originals * m ≤ length (now «e_free»)) ⌝ }
-    ensures { λ r. ⌜ Definition.gatheredOf (length (now (solved .entry))) m r (now («q_free» .exit)) (now («e_free» .exit))
+        × (originals * m ≤ length (now «e_free»))
+        × (originals ≤ length (now «c_free»))
+        × (originals ≤ length (now «gradient_free»))
+        × (m ≤ length (now residuals))
+        × (m ≤ length (now kept))
+        × (m ≤ length (now residual)) ⌝ }
+    ensures { λ r. ⌜ Definition.gatheredOf (length (now (solved .entry))) m r (now («q_free» .exit)) (now («e_free» .exit)) (now («c_free» .exit))
+        (now («gradient_free» .exit)) (now (residuals .exit)) (now (kept .exit)) (now (residual .exit))
         ≡ Definition.gather (problem originals n m (now (q .entry)) (now (c .entry)) (now (e .entry)) (now (b .entry)))
         (now (x .entry)) (now (solved .entry)) (now (slacks .entry)) (now (slope .entry)) ⌝ }
     ensures { λ r. ⌜ r .columns ≡ length (keptColumns (now (e .entry)) n m (now (solved .entry)) (now (slacks .entry)) originals
@@ -177,23 +132,17 @@ pub fn gather(
 {
     let k = solved.len();
     let first = m - (n - originals);
-    let mut kept = [0; sizes::COLUMNS];
-    let columns = slack_rows::kept_columns(e, n, m, solved, slacks, originals, first, &mut kept);
+    let columns = slack_rows::kept_columns(e, n, m, solved, slacks, originals, first, kept);
     block(e, n, m, solved, &kept[..columns], room, e_free);
     block(q, n, n, solved, solved, room, q_free);
     let rows = k * n;
-    vectors(
-        &room[..rows],
-        c,
-        e,
-        b,
-        n,
-        m,
-        originals,
-        x,
-        solved,
-        slope,
-        kept,
-        columns,
-    )
+    linear(c, n, solved, slope, c_free);
+    gradient(&room[..rows], &c_free[..k], k, n, x, gradient_free);
+    residuals_at(e, b, n, m, x, residuals);
+    vector::select(&residuals[..m], m, &kept[..columns], columns, residual);
+    let noise = slack_rows::step_noise(&room[..rows], k, n, x, originals, &c_free[..k]);
+    Free {
+        columns: columns,
+        noise: noise,
+    }
 }

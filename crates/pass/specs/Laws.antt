@@ -1,5 +1,4 @@
--- Laws of the definitions: the free variables, split at `originals`, are as the solve and the step ask, what a pass leaves, and what a function's
--- calls give, put together.
+-- Laws of the definitions: the free variables, split at `originals`, are as the solve and the step ask, and what a function's calls give, put together.
 use mathlib.Core.Path.{_≡_, refl, _∙_}
 use mathlib.Core.Bool.{Bool}
 use mathlib.Core.List.{List}
@@ -11,12 +10,10 @@ use lib.Seq.{length-take-le, take-all}
 use borrow.Author.Tests.{ne-eqb}
 use lib.Ieee.{Float}
 use Rattle.folds.specs.Fold.{pick}
-use Rattle.folds.specs.Run.{Pass, more, done}
+use Rattle.folds.specs.Run.{Pass}
 use Rattle.folds.specs.Chosen.{chosen}
 use Rattle.folds.specs.Position.{partitionPoint, split-within}
 use Rattle.sizes.specs.Sizes as Sizes
-use Rattle.scaled.specs.System.{system}
-use Rattle.solution.specs.Solution.{answer}
 use Rattle.factor.specs.Factor.{Rising}
 use Rattle.factor.specs.Laws.{rising-chosen}
 use Rattle.factoring.specs.declared.Factoring.{Factoring}
@@ -26,26 +23,17 @@ use Rattle.segments.specs.declared.Spot.{Spot}
 use Rattle.free_list.specs.FreeList.{isFree, freeIndices, slopes}
 use Rattle.free_list.specs.Laws.{free-originals}
 use Rattle.slack_rows.specs.Laws as SlackRows
-use Rattle.iterate.specs.Problem.{Problem, problem, firstSlackColumn}
-use Rattle.iterate.specs.Iterate.{Result, passedOf}
+use Rattle.iterate.specs.Problem.{problem, firstSlackColumn}
+use Rattle.iterate.specs.Iterate.{Result}
 use Rattle.iterate.specs.declared.Iterate.{Iterate}
 use Rattle.advance.specs.Advance.{withoutFree}
-use Rattle.free_problem.specs.FreeProblem.{Gathered, gatheredOf, gather}
+use Rattle.free_problem.specs.FreeProblem.{gather}
 use Rattle.free_problem.specs.declared.Free.{Free}
-use Rattle.free_problem.specs.Laws as Gathered
-use Rattle.free_solve.specs.FreeSolve.{solutionOf, solveFree}
-use Rattle.free_solve.specs.declared.Solved.{Solved}
-use Rattle.free_solve.specs.Laws.{left-answer, left-factoring, left-factor}
+use Rattle.free_problem.specs.Laws.{Parts}
 use Rattle.free_step.specs.FreeStep.{Split}
-use Rattle.pass.specs.declared.Made.{Made}
-use Rattle.pass.specs.Pass.{State, state, beside, madeOf, onSolution, onProblem, onGathered, withFree, pass}
-
--- a length that is known, in an inequality
-pub still : {a b l : ℕ} → l ≡ b → a ≤ b → a ≤ l
-still e h = rw e h
-
-pub within : {a b l : ℕ} → l ≡ a → a ≤ b → l ≤ b
-within e h = rw e h
+use Rattle.free_pass.specs.FreePass.{State, state, beside, onProblem}
+use Rattle.free_pass.specs.Laws.{within}
+use Rattle.pass.specs.Pass.{withFree, pass}
 
 -- ---- the split
 free-chosen : (n : ℕ) (state : List Spot) → freeIndices n state ≡ chosen n (λ i. isFree (stateAt state i))
@@ -90,58 +78,21 @@ module _ {indices solved : List ℕ} (originals n : ℕ) (state : List Spot) (wi
               rw (rest, lead-length originals indices lead, free, free-chosen n state) (SlackRows.split-rows n m originals first room _ within few (omega arith));
         }
 
--- ---- what a pass leaves
-module _ (f : Factoring) (l : List Float) where
-  pub beside-more : (i : Iterate) → beside f l (more i) ≡ more (state i f l)
-  unfolding beside
-  beside-more i = refl
-
-  pub beside-done : (r : Result) → beside f l (done r) ≡ done r
-  unfolding beside
-  beside-done r = refl
-
-pub made-beside : (n m : ℕ) (r : Made) (l : List Float) → madeOf n m r l ≡ beside (r .factoring) l (passedOf n m (r .passed))
-unfolding madeOf
-made-beside n m r l = refl
-
 -- ---- what the calls give
 module _ (originals n m : ℕ) (q c e b : List Float) (segments : List Segments) (fixed : List Bool) (qAmax linear : Float)
     (solved slacks : List ℕ) (i : Iterate) (f : Factoring) (l : List Float) where
-  pub problem-from : {x : Pass Iterate Result} (kept : List ℕ) (cFree gradient residuals qFree eFree residual : List Float) (noise : Float) (r : Solved)
-      (l′ : List Float) →
-      solutionOf (length solved) (length kept) r l′
-      ≡ solveFree q n solved (system (length solved) (length kept) qFree gradient eFree residual) noise f l →
-      x ≡ onSolution (problem originals n m q c e b) segments fixed qAmax linear solved slacks kept cFree gradient residuals qFree eFree i
-      (answer (r .verdict) (take (length solved) (r .x)) (take (length kept) (r .multipliers))) →
-      beside (r .factoring) l′ x
-      ≡ onProblem (problem originals n m q c e b) segments fixed qAmax linear solved slacks kept cFree gradient residuals qFree eFree residual noise i f l
-  unfolding onProblem
-  problem-from kept cFree gradient residuals qFree eFree residual noise r l′ s h =
-      rw (h, left-answer _ _ r l′ _ s, left-factoring _ _ r l′ _ s, left-factor _ _ r l′ _ s)
-
-  pub gathered-from : {x : Pass State Result} {g : Gathered} (k : ℕ) (r : Free) (qFree eFree : List Float) → gatheredOf k m r qFree eFree ≡ g →
-      x ≡ onProblem (problem originals n m q c e b) segments fixed qAmax linear solved slacks (take (r .columns) (r .kept)) (take k (r .c))
-      (take k (r .gradient)) (take m (r .residuals)) (take (k * k) qFree) (take (k * r .columns) eFree) (take (r .columns) (r .residual)) (r .noise) i f l →
-      x ≡ onGathered (problem originals n m q c e b) segments fixed qAmax linear solved slacks g i f l
-  unfolding onGathered
-  gathered-from k r qFree eFree s h =
-      h
-      ∙ rw (
-        Gathered.taken-kept k m r qFree eFree s,
-        Gathered.taken-c k m r qFree eFree s,
-        Gathered.taken-gradient k m r qFree eFree s,
-        Gathered.taken-residuals k m r qFree eFree s,
-        Gathered.taken-q k m r qFree eFree s,
-        Gathered.taken-e k m r qFree eFree s,
-        Gathered.taken-residual k m r qFree eFree s,
-        Gathered.noise-is k m r qFree eFree s,
-      )
-
-  pub free-from : {x : Pass State Result} {g : Gathered} {slope : List Float} → g ≡ gather (problem originals n m q c e b) (take n (i .board .x)) solved slacks slope →
-      slope ≡ slopes (length solved) n segments (i .board .state) → x ≡ onGathered (problem originals n m q c e b) segments fixed qAmax linear solved slacks g i f l →
+  pub free-from : {x : Pass State Result} {r : Free} {qFree eFree cFree gradient residuals residual slope : List Float} {kept : List ℕ} →
+      Parts (length solved) m r qFree eFree cFree gradient residuals kept residual
+      (gather (problem originals n m q c e b) (take n (i .board .x)) solved slacks slope) →
+      slope ≡ slopes (length solved) n segments (i .board .state) →
+      x ≡ onProblem (problem originals n m q c e b) segments fixed qAmax linear solved slacks (take (r .columns) kept) (take (length solved) cFree)
+      (take (length solved) gradient) (take m residuals) (take (length solved * length solved) qFree) (take (length solved * r .columns) eFree)
+      (take (r .columns) residual) (r .noise) i f l →
       x ≡ withFree (problem originals n m q c e b) segments fixed qAmax linear solved slacks i f l
   unfolding withFree
-  free-from g s h = h ∙ rw (g, s)
+  free-from p s h =
+      h
+      ∙ rw (p .kept-are, p .linear-is, p .gradient-is, p .residuals-are, p .square-is, p .entries-are, p .residual-is, p .noise-is, s)
 
   module _ {indices : List ℕ} (free : indices ≡ freeIndices n (i .board .state)) (lead : solved ≡ take (partitionPoint originals indices) indices) where
     pub pass-without : {x : Pass Iterate Result} → length solved ≡ 0 → x ≡ withoutFree originals n m segments fixed i →

@@ -1,372 +1,22 @@
 // qp.rs, a pass of `solve_piecewise_in_units`. Q is n by n, E is n by m; the variables from `originals` on are slacks, each with one of the last columns
-// of E. `indices` are the free variables, `solved` those of them below `originals`, `slacks` the others. The slices from room or ks on are work memory,
-// but l, which holds the kept factor.
+// of E. `indices` are the free variables, `solved` those of them below `originals`, `slacks` the others. The slices from room on are work memory, but l,
+// which holds the kept factor.
 ghost use mathlib.Core.Path.{_≡_};
 ghost use Prim.Native.Nat.{_≤_, _*_};
-ghost use lib.ListN.{length, take};
-ghost use Rattle.sizes.specs.Sizes as Sizes;
-ghost use Rattle.vector.specs.Vector.{Below};
-ghost use Rattle.noisy_kkt.specs.Room.{Squares, Tall};
+ghost use lib.ListN.{length};
 ghost use Rattle.factor.specs.Factor.{Rising};
 ghost use Rattle.factoring.specs.Kept.{Good};
-ghost use Rattle.solution.specs.Solution.{answer};
 ghost use Rattle.segments.specs.Segments.{AllCut};
 ghost use Rattle.free_list.specs.FreeList.{freeIndices};
 ghost use Rattle.iterate.specs.Problem.{problem, Shaped, Room};
 ghost use Rattle.iterate.specs.Iterate.{Kept};
-ghost use Rattle.advance.specs.Advance.{Shape};
-ghost use Rattle.free_problem.specs.FreeProblem.{gatheredOf};
-ghost use Rattle.free_solve.specs.Workspace.{Workspace};
 ghost use Rattle.free_step.specs.FreeStep.{Split};
+ghost use Rattle.free_pass.specs.FreePass.{madeOf, state};
 ghost use Rattle.pass.specs.Pass as Definition;
-ghost use Rattle.pass.specs.Pass.{Lists, state};
 use factoring::Factoring;
-use free_problem::Free;
-use iterate::Ending;
+use free_pass::Made;
 use iterate::Iterate;
-use iterate::Passed;
 use segments::Segments;
-use solution::Verdict;
-
-// A pass, and what it leaves of the kept factor, beside the factor itself.
-pub struct Made {
-    pub passed: Passed,
-    pub factoring: Factoring,
-}
-
-// What follows the solve on the free variables.
-fn after_solve(
-    verdict: Verdict,
-    iterate: Iterate,
-    segments: [Segments; sizes::VARIABLES],
-    fixed: &[bool],
-    q: &[f64],
-    c: &[f64],
-    e: &[f64],
-    n: usize,
-    m: usize,
-    originals: usize,
-    q_amax: f64,
-    linear: f64,
-    indices: &[usize],
-    solved: &[usize],
-    slacks: &[usize],
-    kept: &[usize],
-    c_free: &[f64],
-    gradient: &[f64],
-    residuals: &[f64],
-    q_free: &[f64],
-    e_free: &[f64],
-    delta: &[f64],
-    multipliers: &[f64],
-    ks: &mut [f64],
-    es: &mut [f64],
-    left: &mut [f64],
-    coefficients: &mut [f64],
-    range: &mut [f64],
-    qq: &mut [f64],
-    null: &mut [f64],
-    h: &mut [f64],
-    vectors: &mut [f64],
-) -> Passed
-    requires { ⌜ Shape originals n m (now q) (now c) (now e)
-        × AllCut n segments
-        × Kept n segments iterate
-        × (n ≤ length (now fixed))
-        × Split originals n m (now e) (iterate .board .state) (now indices) (now solved) (now slacks)
-        × Lists (length (now solved)) m (now kept) (now «c_free») (now gradient) (now residuals) (now «q_free») (now «e_free»)
-        × (length (now solved) ≤ length (now delta))
-        × (length (now kept) ≤ length (now multipliers))
-        × (length (now solved) * length (now solved) ≤ length (now ks))
-        × (length (now solved) * length (now kept) ≤ length (now es))
-        × Tall (length (now solved)) (length (now kept)) (now left) (now coefficients) (now range)
-        × Squares (length (now solved)) (now qq) (now null) (now h) (now vectors) ⌝ }
-    ensures { λ r. ⌜ Definition.OnSolution originals n m (now (q .entry)) (now (c .entry)) (now (e .entry)) segments (now (fixed .entry)) «q_amax» linear
-        (now (solved .entry)) (now (slacks .entry)) (now (kept .entry)) (now («c_free» .entry)) (now (gradient .entry)) (now (residuals .entry))
-        (now («q_free» .entry)) (now («e_free» .entry)) iterate (answer verdict (now (delta .entry)) (now (multipliers .entry))) r ⌝ }
-    ensures { λ r. ⌜ Kept n segments (r .iterate) ⌝ }
-{
-    match verdict {
-        Verdict::Solved => free_step::minimum(
-            iterate,
-            segments,
-            fixed,
-            q,
-            c,
-            e,
-            n,
-            m,
-            originals,
-            q_amax,
-            linear,
-            indices,
-            solved,
-            slacks,
-            kept,
-            residuals,
-            delta,
-            multipliers,
-        ),
-        Verdict::NoOptimum => free_step::descend(
-            iterate,
-            segments,
-            e,
-            n,
-            m,
-            originals,
-            indices,
-            solved,
-            slacks,
-            c_free,
-            gradient,
-            q_free,
-            e_free,
-            kept.len(),
-            ks,
-            es,
-            left,
-            coefficients,
-            range,
-            qq,
-            null,
-            h,
-            vectors,
-        ),
-        Verdict::NonFiniteCovariance => iterate::ended(Ending::NonFiniteCovariance, iterate),
-        Verdict::SingularCovariance => iterate::ended(Ending::SingularCovariance, iterate),
-    }
-}
-
-// The solve on the free variables, and what follows it.
-fn with_problem(
-    iterate: Iterate,
-    factoring: Factoring,
-    segments: [Segments; sizes::VARIABLES],
-    fixed: &[bool],
-    q: &[f64],
-    c: &[f64],
-    e: &[f64],
-    n: usize,
-    m: usize,
-    originals: usize,
-    q_amax: f64,
-    linear: f64,
-    indices: &[usize],
-    solved: &[usize],
-    slacks: &[usize],
-    kept: &[usize],
-    c_free: &[f64],
-    gradient: &[f64],
-    residuals: &[f64],
-    q_free: &[f64],
-    e_free: &[f64],
-    residual: &[f64],
-    noise: f64,
-    room: &mut [f64],
-    gram: &mut [f64],
-    ks: &mut [f64],
-    es: &mut [f64],
-    left: &mut [f64],
-    coefficients: &mut [f64],
-    range: &mut [f64],
-    qq: &mut [f64],
-    null: &mut [f64],
-    h: &mut [f64],
-    vectors: &mut [f64],
-    l: &mut [f64],
-) -> Made
-    requires { ⌜ Shape originals n m (now q) (now c) (now e)
-        × AllCut n segments
-        × Kept n segments iterate
-        × (n ≤ length (now fixed))
-        × Split originals n m (now e) (iterate .board .state) (now indices) (now solved) (now slacks)
-        × Rising originals (now solved)
-        × (originals ≤ Sizes.originals)
-        × (originals * n ≤ length (now room))
-        × Lists (length (now solved)) m (now kept) (now «c_free») (now gradient) (now residuals) (now «q_free») (now «e_free»)
-        × (length (now kept) ≤ length (now residual))
-        × Workspace (length (now solved)) (length (now kept)) (now gram) (now ks) (now es) (now left) (now coefficients) (now range)
-        (now qq) (now null) (now h) (now vectors)
-        × Good originals factoring (now l)
-        × (originals * originals ≤ length (now l)) ⌝ }
-    ensures { λ r. ⌜ Definition.OnProblem originals n m (now (q .entry)) (now (c .entry)) (now (e .entry)) segments (now (fixed .entry)) «q_amax» linear
-        (now (solved .entry)) (now (slacks .entry)) (now (kept .entry)) (now («c_free» .entry)) (now (gradient .entry)) (now (residuals .entry))
-        (now («q_free» .entry)) (now («e_free» .entry)) (now (residual .entry)) noise iterate factoring (now (l .entry)) r (now (l .exit)) ⌝ }
-    ensures { λ r. ⌜ Kept n segments (r .passed .iterate) × Good originals (r .factoring) (now (l .exit)) ⌝ }
-{
-    let k = solved.len();
-    let columns = kept.len();
-    let s = free_solve::solve_free(
-        factoring,
-        q,
-        n,
-        originals,
-        solved,
-        q_free,
-        gradient,
-        e_free,
-        residual,
-        columns,
-        noise,
-        room,
-        gram,
-        ks,
-        es,
-        left,
-        coefficients,
-        range,
-        qq,
-        null,
-        h,
-        vectors,
-        l,
-    );
-    let verdict = s.verdict;
-    let delta = s.x;
-    let multipliers = s.multipliers;
-    let left_factoring = s.factoring;
-    let passed = after_solve(
-        verdict,
-        iterate,
-        segments,
-        fixed,
-        q,
-        c,
-        e,
-        n,
-        m,
-        originals,
-        q_amax,
-        linear,
-        indices,
-        solved,
-        slacks,
-        kept,
-        c_free,
-        gradient,
-        residuals,
-        q_free,
-        e_free,
-        &delta[..k],
-        &multipliers[..columns],
-        ks,
-        es,
-        left,
-        coefficients,
-        range,
-        qq,
-        null,
-        h,
-        vectors,
-    );
-    Made {
-        passed: passed,
-        factoring: left_factoring,
-    }
-}
-
-// The same, of what was gathered; Q's and E's blocks are the starts of q_free and e_free.
-fn with_gathered(
-    iterate: Iterate,
-    factoring: Factoring,
-    segments: [Segments; sizes::VARIABLES],
-    fixed: &[bool],
-    q: &[f64],
-    c: &[f64],
-    e: &[f64],
-    n: usize,
-    m: usize,
-    originals: usize,
-    q_amax: f64,
-    linear: f64,
-    indices: &[usize],
-    solved: &[usize],
-    slacks: &[usize],
-    free: Free,
-    q_free: &[f64],
-    e_free: &[f64],
-    room: &mut [f64],
-    gram: &mut [f64],
-    ks: &mut [f64],
-    es: &mut [f64],
-    left: &mut [f64],
-    coefficients: &mut [f64],
-    range: &mut [f64],
-    qq: &mut [f64],
-    null: &mut [f64],
-    h: &mut [f64],
-    vectors: &mut [f64],
-    l: &mut [f64],
-) -> Made
-    requires { ⌜ Shape originals n m (now q) (now c) (now e)
-        × AllCut n segments
-        × Kept n segments iterate
-        × (n ≤ length (now fixed))
-        × Split originals n m (now e) (iterate .board .state) (now indices) (now solved) (now slacks)
-        × Rising originals (now solved)
-        × (originals ≤ Sizes.originals)
-        × (free .columns ≤ m)
-        × Below (length (take (free .columns) (free .kept))) (take (free .columns) (free .kept)) m
-        × (originals * originals ≤ length (now «q_free»))
-        × (originals * m ≤ length (now «e_free»))
-        × (originals * n ≤ length (now room))
-        × Workspace originals m (now gram) (now ks) (now es) (now left) (now coefficients) (now range)
-        (now qq) (now null) (now h) (now vectors)
-        × Good originals factoring (now l)
-        × (originals * originals ≤ length (now l)) ⌝ }
-    ensures { λ r. ⌜ Definition.OnGathered originals n m (now (q .entry)) (now (c .entry)) (now (e .entry)) segments (now (fixed .entry)) «q_amax» linear
-        (now (solved .entry)) (now (slacks .entry))
-        (gatheredOf (length (now (solved .entry))) m free (now («q_free» .entry)) (now («e_free» .entry))) iterate factoring (now (l .entry)) r
-        (now (l .exit)) ⌝ }
-    ensures { λ r. ⌜ Kept n segments (r .passed .iterate) × Good originals (r .factoring) (now (l .exit)) ⌝ }
-{
-    let k = solved.len();
-    let columns = free.columns;
-    let square = k * k;
-    let entries = k * columns;
-    let kept = free.kept;
-    let c_free = free.c;
-    let gradient = free.gradient;
-    let residuals = free.residuals;
-    let residual = free.residual;
-    with_problem(
-        iterate,
-        factoring,
-        segments,
-        fixed,
-        q,
-        c,
-        e,
-        n,
-        m,
-        originals,
-        q_amax,
-        linear,
-        indices,
-        solved,
-        slacks,
-        &kept[..columns],
-        &c_free[..k],
-        &gradient[..k],
-        &residuals[..m],
-        &q_free[..square],
-        &e_free[..entries],
-        &residual[..columns],
-        free.noise,
-        room,
-        gram,
-        ks,
-        es,
-        left,
-        coefficients,
-        range,
-        qq,
-        null,
-        h,
-        vectors,
-        l,
-    )
-}
 
 // A pass with free originals.
 fn with_free(
@@ -411,7 +61,7 @@ fn with_free(
         (now qq) (now null) (now h) (now vectors)
         × Good originals factoring (now l)
         × (originals * originals ≤ length (now l)) ⌝ }
-    ensures { λ r. ⌜ Definition.madeOf n m r (now (l .exit))
+    ensures { λ r. ⌜ madeOf n m r (now (l .exit))
         ≡ Definition.withFree (problem originals n m (now (q .entry)) (now (c .entry)) (now (e .entry)) (now (b .entry))) segments
         (now (fixed .entry)) «q_amax» linear (now (solved .entry)) (now (slacks .entry)) iterate factoring (now (l .entry)) ⌝ }
     ensures { λ r. ⌜ Kept n segments (r .passed .iterate) × Good originals (r .factoring) (now (l .exit)) ⌝ }
@@ -420,8 +70,24 @@ fn with_free(
     let board = iterate.board;
     let x = board.x;
     let state = board.state;
+    let count = indices.len();
+    let mut lower = [0.0; sizes::VARIABLES];
+    let mut upper = [0.0; sizes::VARIABLES];
     let mut slope = [0.0; sizes::VARIABLES];
-    free_list::slopes(segments, state, n, indices, k, &mut slope);
+    free_list::ends_and_slopes(
+        segments,
+        state,
+        n,
+        indices,
+        &mut lower,
+        &mut upper,
+        &mut slope,
+    );
+    let mut kept = [0; sizes::COLUMNS];
+    let mut c_free = [0.0; sizes::ORIGINALS];
+    let mut gradient = [0.0; sizes::ORIGINALS];
+    let mut residuals = [0.0; sizes::COLUMNS];
+    let mut residual = [0.0; sizes::COLUMNS];
     let free = free_problem::gather(
         q,
         c,
@@ -437,8 +103,16 @@ fn with_free(
         room,
         q_free,
         e_free,
+        &mut c_free,
+        &mut gradient,
+        &mut residuals,
+        &mut kept,
+        &mut residual,
     );
-    with_gathered(
+    let columns = free.columns;
+    let square = k * k;
+    let entries = k * columns;
+    free_pass::with_problem(
         iterate,
         factoring,
         segments,
@@ -454,9 +128,16 @@ fn with_free(
         indices,
         solved,
         slacks,
-        free,
-        q_free,
-        e_free,
+        &kept[..columns],
+        &c_free[..k],
+        &gradient[..k],
+        &residuals[..m],
+        &q_free[..square],
+        &e_free[..entries],
+        &residual[..columns],
+        free.noise,
+        &lower[..count],
+        &upper[..count],
         room,
         gram,
         ks,
@@ -512,7 +193,7 @@ fn with_indices(
         (now qq) (now null) (now h) (now vectors)
         × Good originals factoring (now l)
         × (originals * originals ≤ length (now l)) ⌝ }
-    ensures { λ r. ⌜ Definition.madeOf n m r (now (l .exit))
+    ensures { λ r. ⌜ madeOf n m r (now (l .exit))
         ≡ Definition.pass (problem originals n m (now (q .entry)) (now (c .entry)) (now (e .entry)) (now (b .entry))) segments
         (now (fixed .entry)) «q_amax» linear (state iterate factoring (now (l .entry))) ⌝ }
     ensures { λ r. ⌜ Kept n segments (r .passed .iterate) × Good originals (r .factoring) (now (l .exit)) ⌝ }
@@ -597,7 +278,7 @@ pub fn pass(
         (now qq) (now null) (now h) (now vectors)
         × Good originals factoring (now l)
         × (originals * originals ≤ length (now l)) ⌝ }
-    ensures { λ r. ⌜ Definition.madeOf n m r (now (l .exit))
+    ensures { λ r. ⌜ madeOf n m r (now (l .exit))
         ≡ Definition.pass (problem originals n m (now (q .entry)) (now (c .entry)) (now (e .entry)) (now (b .entry))) segments
         (now (fixed .entry)) «q_amax» linear (state iterate factoring (now (l .entry))) ⌝ }
     ensures { λ r. ⌜ Kept n segments (r .passed .iterate) × Good originals (r .factoring) (now (l .exit)) ⌝ }

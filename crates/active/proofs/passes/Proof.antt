@@ -4,7 +4,7 @@ use Rattle.iterate.specs.Problem.{problem}
 use Rattle.iterate.specs.Iterate.{Kept}
 use Rattle.factoring.specs.Kept.{Good}
 use Rattle.factoring.specs.Laws.{good-new}
-use Rattle.pass.specs.Pass.{state}
+use Rattle.free_pass.specs.FreePass.{state}
 use Rattle.active.specs.Active.{budget, passes}
 use Rattle.active.proofs.Left.{Left, all-left, all-spent, again, ended, same-room}
 use Rattle.active.proofs.passes.Statement.{statement}

@@ -1,19 +1,28 @@
-use Rattle.folds.specs.Kit.{sym, arith, length, needs}
+use Rattle.folds.specs.Kit.{sym, _∙_, arith, length, needs}
 use lib.Seq.{length-take-le}
+use Rattle.folds.specs.Tab.{taken-over}
+use Rattle.vector.specs.Laws.{length-sub, length-select}
 use Rattle.free_problem.specs.FreeProblem.{linear}
 use Rattle.free_problem.proofs.linear.Statement.{statement}
 use Rattle.free_problem.proofs.linear.Tie as tie
 
 slice-aggregate-sub : tie.Need-slice-aggregate-sub
-slice-aggregate-sub c = sym (length-take-le _ _ (omega arith))
+slice-aggregate-sub c = sym (length-take-le _ _ (search needs))
+
+returns : tie.Need-returns
+unfolding linear
+returns c =
+    let s = c .before .before in
+    taken-over _ _ (length-sub _ _ _) (s .sub .ensures) ∙ rw (taken-over _ _ (length-select _ _ _) (s .before .before .before .before .select .ensures))
 
 pub linear-spec : {M : Type 1} → statement M
-unfolding linear
 linear-spec =
     tie.close
     (tie.spec
-    (λ c κs. search needs)  -- selected-requires
+    (λ c. search needs)  -- slice-aggregate-select
+    (λ c κs. search needs)  -- select-requires
     (λ c. search needs)  -- array-share-prefix-cs
     slice-aggregate-sub
-    (λ c κs. let l = slice-aggregate-sub c in (omega arith, omega arith, omega arith))  -- sub-requires
-    (λ c. rw (c .sub .ensures, c .before .before .selected .ensures)))  -- returns
+    (λ c κs. let l = slice-aggregate-sub (c .before) in (omega arith, omega arith, omega arith))  -- sub-requires
+    (λ c. search needs)  -- same-length
+    returns)

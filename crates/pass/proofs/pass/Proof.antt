@@ -4,7 +4,7 @@ use lib.Seq.{length-take-le}
 use Rattle.folds.specs.Tab.{taken-over}
 use Rattle.free_list.specs.FreeList.{freeIndices}
 use Rattle.free_list.specs.Laws.{free-few}
-use Rattle.pass.specs.Laws.{still, within}
+use Rattle.free_pass.specs.Laws.{still, within}
 use Rattle.pass.proofs.pass.Statement.{statement}
 use Rattle.pass.proofs.pass.Tie as tie
 

@@ -1,60 +1,125 @@
-use Rattle.folds.specs.Kit.{_≡_, _≤_, sym, _∙_, arith, length, needs}
+use Rattle.folds.specs.Kit.{_≡_, _≤_, _*_, refl, sym, _∙_, arith, length, needs}
 use native.Mathlib.Nat.{le-refl, le-trans}
 use lib.Seq.{length-take-le}
-use Rattle.folds.specs.Tab.{taken-over}
+use Rattle.folds.specs.Cell.{area}
+use Rattle.sizes.specs.Sizes as Sizes
 use Rattle.factor.specs.Laws.{listed-few}
 use Rattle.slack_rows.specs.Laws.{kept-few}
-use Rattle.free_list.specs.Laws.{length-entries}
-use Rattle.free_problem.specs.Laws.{taken-kept, kept-below}
-use Rattle.pass.specs.Laws.{still, within, free-from}
+use Rattle.free_list.specs.Laws.{free-few, taken-entries, ends-taken}
+use Rattle.free_problem.specs.Laws.{parts, kept-below}
+use Rattle.free_solve.specs.Workspace.{workspace-for}
+use Rattle.free_pass.specs.Laws.{still, within}
+use Rattle.pass.specs.Laws.{free-from}
 use Rattle.pass.proofs.with_free.Statement.{statement}
 use Rattle.pass.proofs.with_free.Tie as tie
 
+-- ---- the calls, and the function's start
 abbrev start : tie.After-slope → tie.Start
 start c =
-    let s = c .before .before .before .before .before .before .before .before .before .before .before .before in
+    let s = c .before .before .before .before .before .before .before .before .before .before .before .before .before .before in
     s .before .before .before .before .before .before .before .before .before .before .before .before .before .before
 
-abbrev sloped : tie.After-gather → tie.After-slopes
-sloped c = c .before .before .before .before .before .before .before
+abbrev ends-at : tie.After-gather → tie.After-ends-and-slopes
+ends-at c = c .before .before .before .before .before .before .before .before .before .before .before .before .before .before
 
-abbrev gathered : tie.After-with-gathered → tie.After-gather
-gathered c =
+-- where all that the gathering lent is given back
+abbrev given : tie.After-residual2 → tie.After-gather
+given c = c .before .before .before .before .before .before .before .before .before .before .before
+
+abbrev lent : tie.After-with-problem-arg14 → tie.After-residual2
+lent c =
     let s = c .before .before .before .before .before .before .before .before .before .before .before .before in
     s .before .before .before .before .before .before .before .before .before
 
-abbrev called : tie.After-slice-known29 → tie.After-with-gathered
+abbrev called : tie.After-slice-known29 → tie.After-with-problem
 called c =
     let s = c .before .before .before .before .before .before .before .before .before .before .before .before in
     s .before .before .before .before .before .before .before .before .before .before .before .before
 
+-- ---- the counts
 solved-few : (c : tie.Start) → length (c .args .solved .now) ≤ c .args .originals
 solved-few c = listed-few _ _ (c .pre .5)
 
-few : (c : tie.Start) → length (c .args .solved .now) ≤ 48
-few c = let h = le-trans (solved-few c) (c .pre .0 .few) in omega arith
+few : (c : tie.Start) → length (c .args .solved .now) ≤ Sizes.originals
+few c = le-trans (solved-few c) (c .pre .0 .few)
 
+indices-few : (c : tie.Start) → length (c .args .indices .now) ≤ 48
+indices-few c = rw (c .pre .4 .free) (le-trans (free-few _ _) (c .pre .0 .variables))
+
+columns-few : (c : tie.After-gather) → c .gather .result .columns ≤ start (ends-at c .before) .args .m
+columns-few c = within (c .gather .ensures .1) (kept-few _ _ _ _ _ _ _)
+
+-- ---- what each array that is lent in part holds
 x-fits : (c : tie.Start) → c .args .n ≤ length (c .args .iterate .board .x)
 x-fits c = let e : length (c .args .iterate .board .x) ≡ 48 = (let g = c .good .0 .1 .1 .0 .1 .1 .0 in search needs) in still e (c .pre .0 .variables)
 
-slopes-requires : tie.Need-slopes-requires
-slopes-requires c κs =
-    let s = (start c) in
-    let p = s .pre in
-    (p .0 .variables, p .1, p .2 .placed, p .4 .free, (let h = p .4 .counted in omega arith), few s)
+lower-fits : (c : tie.After-ends-and-slopes) → length (start (c .before) .args .indices .now) ≤ length (c .ends-and-slopes .last .1 .1 .1 .1 .0)
+lower-fits c =
+    let e : length (c .ends-and-slopes .last .1 .1 .1 .1 .0) ≡ 48 = c .ends-and-slopes .kept .1 .1 .1 .1 .0 in still e (indices-few (start (c .before)))
 
-slope-fits : (c : tie.After-slopes) → length ((start (c .before)) .args .solved .now) ≤ length (c .slopes .last .1 .1 .1 .1 .1 .0)
-slope-fits c = let e : length (c .slopes .last .1 .1 .1 .1 .1 .0) ≡ 48 = c .slopes .kept .1 .1 .1 .1 .1 .0 in still e (few (start (c .before)))
+upper-fits : (c : tie.After-ends-and-slopes) → length (start (c .before) .args .indices .now) ≤ length (c .ends-and-slopes .last .1 .1 .1 .1 .1 .0)
+upper-fits c =
+    let e : length (c .ends-and-slopes .last .1 .1 .1 .1 .1 .0) ≡ 48 = c .ends-and-slopes .kept .1 .1 .1 .1 .1 .0 in still e (indices-few (start (c .before)))
+
+slope-holds : (c : tie.After-ends-and-slopes) → length (start (c .before) .args .indices .now) ≤ length (c .ends-and-slopes .last .1 .1 .1 .1 .1 .1 .0)
+slope-holds c =
+    let e : length (c .ends-and-slopes .last .1 .1 .1 .1 .1 .1 .0) ≡ 48 = c .ends-and-slopes .kept .1 .1 .1 .1 .1 .1 .0 in still e (indices-few (start (c .before)))
+
+solved-fit : (c : tie.Start) → length (c .args .solved .now) ≤ length (c .args .indices .now)
+solved-fit c = let h = c .pre .4 .counted in omega arith
+
+slope-fits : (c : tie.After-ends-and-slopes) → length (start (c .before) .args .solved .now) ≤ length (c .ends-and-slopes .last .1 .1 .1 .1 .1 .1 .0)
+slope-fits c = le-trans (solved-fit (start (c .before))) (slope-holds c)
+
+kept-fits : (c : tie.After-gather) → c .gather .result .columns ≤ length (c .gather .last .1 .1 .1 .1 .1 .1 .1 .1 .1 .1 .1 .1 .1 .1 .1 .1 .1 .0)
+kept-fits c =
+    let e : length (c .gather .last .1 .1 .1 .1 .1 .1 .1 .1 .1 .1 .1 .1 .1 .1 .1 .1 .1 .0) ≡ 24 = c .gather .kept .1 .1 .1 .1 .1 .1 .1 .1 .1 .1 .1 .1 .1 .1 .1 .1 .1 .0 in
+    still e (le-trans (columns-few c) (start (ends-at c .before) .pre .0 .columns))
+
+residual-fits : (c : tie.After-gather) → c .gather .result .columns ≤ length (c .gather .last .1 .1 .1 .1 .1 .1 .1 .1 .1 .1 .1 .1 .1 .1 .1 .1 .1 .1 .0)
+residual-fits c =
+    let e : length (c .gather .last .1 .1 .1 .1 .1 .1 .1 .1 .1 .1 .1 .1 .1 .1 .1 .1 .1 .1 .0) ≡ 24 = c .gather .kept .1 .1 .1 .1 .1 .1 .1 .1 .1 .1 .1 .1 .1 .1 .1 .1 .1 .1 .0 in
+    still e (le-trans (columns-few c) (start (ends-at c .before) .pre .0 .columns))
+
+c-fits : (c : tie.After-gather) → length (start (ends-at c .before) .args .solved .now) ≤ length (c .gather .last .1 .1 .1 .1 .1 .1 .1 .1 .1 .1 .1 .1 .1 .1 .0)
+c-fits c =
+    let e : length (c .gather .last .1 .1 .1 .1 .1 .1 .1 .1 .1 .1 .1 .1 .1 .1 .0) ≡ 32 = c .gather .kept .1 .1 .1 .1 .1 .1 .1 .1 .1 .1 .1 .1 .1 .1 .0 in still e (few (start (ends-at c .before)))
+
+gradient-fits : (c : tie.After-gather) → length (start (ends-at c .before) .args .solved .now) ≤ length (c .gather .last .1 .1 .1 .1 .1 .1 .1 .1 .1 .1 .1 .1 .1 .1 .1 .0)
+gradient-fits c =
+    let e : length (c .gather .last .1 .1 .1 .1 .1 .1 .1 .1 .1 .1 .1 .1 .1 .1 .1 .0) ≡ 32 = c .gather .kept .1 .1 .1 .1 .1 .1 .1 .1 .1 .1 .1 .1 .1 .1 .1 .0 in still e (few (start (ends-at c .before)))
+
+residuals-fit : (c : tie.After-gather) → start (ends-at c .before) .args .m ≤ length (c .gather .last .1 .1 .1 .1 .1 .1 .1 .1 .1 .1 .1 .1 .1 .1 .1 .1 .0)
+residuals-fit c =
+    let e : length (c .gather .last .1 .1 .1 .1 .1 .1 .1 .1 .1 .1 .1 .1 .1 .1 .1 .1 .0) ≡ 24 = c .gather .kept .1 .1 .1 .1 .1 .1 .1 .1 .1 .1 .1 .1 .1 .1 .1 .1 .0 in
+    still e (start (ends-at c .before) .pre .0 .columns)
+
+square-fits : (c : tie.After-gather) → let k = length (start (ends-at c .before) .args .solved .now) in k * k ≤ length (c .gather .last .1 .1 .1 .1 .1 .1 .1 .1 .1 .1 .1 .1 .0)
+square-fits c =
+    let s = start (ends-at c .before) in still (c .gather .kept .1 .1 .1 .1 .1 .1 .1 .1 .1 .1 .1 .1 .0) (le-trans (area (solved-few s) (solved-few s)) (s .pre .6 .q-free))
+
+entries-fit : (c : tie.After-gather) →
+    length (start (ends-at c .before) .args .solved .now) * c .gather .result .columns ≤ length (c .gather .last .1 .1 .1 .1 .1 .1 .1 .1 .1 .1 .1 .1 .1 .0)
+entries-fit c =
+    let s = start (ends-at c .before) in still (c .gather .kept .1 .1 .1 .1 .1 .1 .1 .1 .1 .1 .1 .1 .1 .0) (le-trans (area (solved-few s) (columns-few c)) (s .pre .6 .e-free))
+
+-- ---- the calls
+ends-and-slopes-requires : tie.Need-ends-and-slopes-requires
+ends-and-slopes-requires c κs =
+    let s = start c in
+    let p = s .pre in
+    let i = indices-few s in (p .0 .variables, p .1, p .2 .placed, p .4 .free, i, i, i)
 
 slice-aggregate-gather : tie.Need-slice-aggregate-gather
-slice-aggregate-gather c = sym (length-take-le _ _ (x-fits (start (c .before .before .before))))
+slice-aggregate-gather c = sym (length-take-le _ _ (x-fits (start (c .before .before .before .before .before))))
 
 slice-aggregate-gather-2 : tie.Need-slice-aggregate-gather-2
-slice-aggregate-gather-2 c = sym (length-take-le _ _ (slope-fits (c .before .before .before)))
+slice-aggregate-gather-2 c = sym (length-take-le _ _ (slope-fits (c .before .before .before .before .before)))
 
 gather-requires : tie.Need-gather-requires
 gather-requires c κs =
-    let s = (start (c .before .before .before .before .before .before .before)) in
+    let a = c .before .before .before .before .before .before .before .before .before .before .before .before .before in
+    let s = start (a .before) in
     let p = s .pre in
     let r = p .6 in (
       p .0,
@@ -62,20 +127,63 @@ gather-requires c κs =
       p .4 .solved-are,
       p .4 .slacks-are,
       solved-few s,
-      still (length-take-le _ _ (slope-fits (c .before .before .before .before .before .before))) (le-refl _),
+      still (length-take-le _ _ (slope-fits a)) (le-refl _),
       r .rows,
       r .columns,
       r .q-free,
       r .e-free,
+      p .0 .few,
+      p .0 .few,
+      p .0 .columns,
+      p .0 .columns,
+      p .0 .columns,
     )
 
-with-gathered-requires : tie.Need-with-gathered-requires
-with-gathered-requires c κs =
-    let g = c .before .before .before .before .before .before .before .before .before .before .before .before .before .before .before .before .before .before .before .before in
-    let s = start (sloped g .before) in
+mul-square : tie.Need-mul-square
+mul-square c =
+    let f = few (start (ends-at (given c) .before)) in
+    let h : _ ≤ Sizes.originals * Sizes.originals = area f f in omega (arith, h)
+
+mul-entries : tie.Need-mul-entries
+mul-entries c =
+    let g = given c in
+    let s = start (ends-at g .before) in omega (arith, area (few s) (le-trans (columns-few g) (s .pre .0 .columns)))
+
+slice-aggregate-with-problem : tie.Need-slice-aggregate-with-problem
+slice-aggregate-with-problem c = sym (length-take-le _ _ (kept-fits (given (c .before))))
+
+slice-aggregate-with-problem-2 : tie.Need-slice-aggregate-with-problem-2
+slice-aggregate-with-problem-2 c = sym (length-take-le _ _ (c-fits (given (c .before .before))))
+
+slice-aggregate-with-problem-3 : tie.Need-slice-aggregate-with-problem-3
+slice-aggregate-with-problem-3 c = sym (length-take-le _ _ (gradient-fits (given (c .before .before .before))))
+
+slice-aggregate-with-problem-4 : tie.Need-slice-aggregate-with-problem-4
+slice-aggregate-with-problem-4 c = sym (length-take-le _ _ (residuals-fit (given (c .before .before .before .before))))
+
+slice-aggregate-with-problem-5 : tie.Need-slice-aggregate-with-problem-5
+slice-aggregate-with-problem-5 c = sym (length-take-le _ _ (square-fits (given (c .before .before .before .before .before))))
+
+slice-aggregate-with-problem-6 : tie.Need-slice-aggregate-with-problem-6
+slice-aggregate-with-problem-6 c = sym (length-take-le _ _ (entries-fit (given (c .before .before .before .before .before .before))))
+
+slice-aggregate-with-problem-7 : tie.Need-slice-aggregate-with-problem-7
+slice-aggregate-with-problem-7 c = sym (length-take-le _ _ (residual-fits (given (c .before .before .before .before .before .before .before))))
+
+slice-aggregate-with-problem-8 : tie.Need-slice-aggregate-with-problem-8
+slice-aggregate-with-problem-8 c = sym (length-take-le _ _ (lower-fits (ends-at (given (c .before .before .before .before .before .before .before .before)))))
+
+slice-aggregate-with-problem-9 : tie.Need-slice-aggregate-with-problem-9
+slice-aggregate-with-problem-9 c = sym (length-take-le _ _ (upper-fits (ends-at (given (c .before .before .before .before .before .before .before .before .before)))))
+
+with-problem-requires : tie.Need-with-problem-requires
+with-problem-requires c κs =
+    let g = given (lent c) in
+    let a = ends-at g in
+    let s = start (a .before) in
     let p = s .pre in
     let r = p .6 in
-    let k = g .gather .kept in (
+    let columns = length-take-le _ _ (kept-fits g) in (
       record {
         within = p .0 .within;
         variables = p .0 .variables;
@@ -90,30 +198,40 @@ with-gathered-requires c κs =
       p .4,
       p .5,
       p .0 .few,
-      within (g .gather .ensures .1) (kept-few _ _ _ _ _ _ _),
-      rw (taken-kept _ _ (g .gather .result) _ _ (g .gather .ensures .0)) (kept-below _ _ _ _ _ _ _ _ _ _ _),
-      still (k .1 .1 .1 .1 .1 .1 .1 .1 .1 .1 .1 .1 .0) (r .q-free),
-      still (k .1 .1 .1 .1 .1 .1 .1 .1 .1 .1 .1 .1 .1 .0) (r .e-free),
-      still (k .1 .1 .1 .1 .1 .1 .1 .1 .1 .1 .1 .0) (r .rows),
+      still (g .gather .kept .1 .1 .1 .1 .1 .1 .1 .1 .1 .1 .1 .0) (r .rows),
       record {
-        gram-room = r .gram-room;
-        ks-room = r .ks-room;
-        es-room = r .es-room;
-        tall = record { left-room = r .left-room; coefficients-room = r .coefficients-room; range-room = r .range-room };
-        squares = record { q-room = r .qq-room; null-room = r .null-room; h-room = r .h-room; vectors-room = r .vectors-room };
+        few = few s;
+        kept-few = within columns (columns-few g);
+        kept-below = rw (parts _ _ (g .gather .result) _ _ _ _ _ _ _ (g .gather .ensures .0) .kept-are) (kept-below _ _ _ _ _ _ _ _ _ _ _);
+        c-holds = still (length-take-le _ _ (c-fits g)) (le-refl _);
+        gradient-holds = still (length-take-le _ _ (gradient-fits g)) (le-refl _);
+        residuals-hold = still (length-take-le _ _ (residuals-fit g)) (le-refl _);
+        q-holds = still (length-take-le _ _ (square-fits g)) (le-refl _);
+        e-holds = still (length-take-le _ _ (entries-fit g)) (area (le-refl _) (within columns (le-refl _)));
       },
+      still (length-take-le _ _ (residual-fits g)) (within columns (le-refl _)),
+      workspace-for (solved-few s) (within columns (columns-few g))
+          (record {
+            gram-room = r .gram-room;
+            ks-room = r .ks-room;
+            es-room = r .es-room;
+            tall = record { left-room = r .left-room; coefficients-room = r .coefficients-room; range-room = r .range-room };
+            squares = record { q-room = r .qq-room; null-room = r .null-room; h-room = r .h-room; vectors-room = r .vectors-room };
+          }),
       p .7,
       p .8,
+      ends-taken _ _ _ _ _ (p .4 .free) (a .ends-and-slopes .ensures .0) (a .ends-and-slopes .ensures .1),
     )
 
 returns : tie.Need-returns
 returns c =
     let w = called c in
-    let g = gathered w in
-    let s = start (sloped g .before) in
-    let e = w .with-gathered .ensures in (
-      free-from _ _ _ _ _ _ _ _ _ _ _ _ _ _ _ _ (g .gather .ensures .0) (taken-over _ _ (length-entries _ _ _ _ _) (sloped g .slopes .ensures))
-          (e .0 (s .args .b .now)),
+    let g = given (lent (w .before)) in
+    let a = ends-at g in
+    let s = start (a .before) in
+    let e = w .with-problem .ensures in (
+      free-from _ _ _ _ _ _ _ _ _ _ _ _ _ _ _ _ (parts _ _ (g .gather .result) _ _ _ _ _ _ _ (g .gather .ensures .0))
+          (taken-entries _ _ _ _ _ _ _ (solved-fit s) (slope-holds a) (a .ends-and-slopes .ensures .2)) (e .0 (s .args .b .now)),
       e .1,
     )
 
@@ -121,26 +239,55 @@ pub with-free-spec : {M : Type 1} → statement M
 with-free-spec =
     tie.close
     (tie.spec
-    (λ c. search needs)  -- slice-aggregate-slopes
-    slopes-requires
-    (λ c. x-fits (start (c .before .before)))  -- array-share-prefix-x
+    (λ c. refl)  -- slice-aggregate-ends-and-slopes
+    (λ c. refl)  -- slice-aggregate-ends-and-slopes-2
+    (λ c. refl)  -- slice-aggregate-ends-and-slopes-3
+    ends-and-slopes-requires
+    (λ c. x-fits (start (c .before .before .before .before)))  -- array-share-prefix-x
     slice-aggregate-gather
-    (λ c. slope-fits (c .before .before))  -- array-share-prefix-slope
+    (λ c. slope-fits (c .before .before .before .before))  -- array-share-prefix-slope
     slice-aggregate-gather-2
+    (λ c. refl)  -- slice-aggregate-gather-3
+    (λ c. refl)  -- slice-aggregate-gather-4
+    (λ c. refl)  -- slice-aggregate-gather-5
+    (λ c. refl)  -- slice-aggregate-gather-6
+    (λ c. refl)  -- slice-aggregate-gather-7
     gather-requires
-    with-gathered-requires
-    (λ c. let w = called c in w .with-gathered .kept .1 .1 .1 .1 .1 .1 .1 .1 .1 .1 .1 .1 .1 .1 .1 .1 .1 .1 .0 ∙ gathered w .gather .kept .1 .1 .1 .1 .1 .1 .1 .1 .1 .1 .1 .0)  -- same-length
-    (λ c. gathered (called c) .gather .kept .1 .1 .1 .1 .1 .1 .1 .1 .1 .1 .1 .1 .0)  -- same-length-2
-    (λ c. gathered (called c) .gather .kept .1 .1 .1 .1 .1 .1 .1 .1 .1 .1 .1 .1 .1 .0)  -- same-length-3
-    (λ c. called c .with-gathered .kept .1 .1 .1 .1 .1 .1 .1 .1 .1 .1 .1 .1 .1 .1 .1 .1 .1 .1 .1 .0)  -- same-length-4
-    (λ c. called c .with-gathered .kept .1 .1 .1 .1 .1 .1 .1 .1 .1 .1 .1 .1 .1 .1 .1 .1 .1 .1 .1 .1 .0)  -- same-length-5
-    (λ c. called c .with-gathered .kept .1 .1 .1 .1 .1 .1 .1 .1 .1 .1 .1 .1 .1 .1 .1 .1 .1 .1 .1 .1 .1 .0)  -- same-length-6
-    (λ c. called c .with-gathered .kept .1 .1 .1 .1 .1 .1 .1 .1 .1 .1 .1 .1 .1 .1 .1 .1 .1 .1 .1 .1 .1 .1 .0)  -- same-length-7
-    (λ c. called c .with-gathered .kept .1 .1 .1 .1 .1 .1 .1 .1 .1 .1 .1 .1 .1 .1 .1 .1 .1 .1 .1 .1 .1 .1 .1 .0)  -- same-length-8
-    (λ c. called c .with-gathered .kept .1 .1 .1 .1 .1 .1 .1 .1 .1 .1 .1 .1 .1 .1 .1 .1 .1 .1 .1 .1 .1 .1 .1 .1 .0)  -- same-length-9
-    (λ c. called c .with-gathered .kept .1 .1 .1 .1 .1 .1 .1 .1 .1 .1 .1 .1 .1 .1 .1 .1 .1 .1 .1 .1 .1 .1 .1 .1 .1 .0)  -- same-length-10
-    (λ c. called c .with-gathered .kept .1 .1 .1 .1 .1 .1 .1 .1 .1 .1 .1 .1 .1 .1 .1 .1 .1 .1 .1 .1 .1 .1 .1 .1 .1 .1 .0)  -- same-length-11
-    (λ c. called c .with-gathered .kept .1 .1 .1 .1 .1 .1 .1 .1 .1 .1 .1 .1 .1 .1 .1 .1 .1 .1 .1 .1 .1 .1 .1 .1 .1 .1 .1 .0)  -- same-length-12
-    (λ c. called c .with-gathered .kept .1 .1 .1 .1 .1 .1 .1 .1 .1 .1 .1 .1 .1 .1 .1 .1 .1 .1 .1 .1 .1 .1 .1 .1 .1 .1 .1 .1 .0)  -- same-length-13
-    (λ c. called c .with-gathered .kept .1 .1 .1 .1 .1 .1 .1 .1 .1 .1 .1 .1 .1 .1 .1 .1 .1 .1 .1 .1 .1 .1 .1 .1 .1 .1 .1 .1 .1 .0)  -- same-length-14
+    mul-square
+    mul-entries
+    (λ c. kept-fits (given c))  -- array-share-prefix-kept
+    slice-aggregate-with-problem
+    (λ c. c-fits (given (c .before)))  -- array-share-prefix-c-free
+    slice-aggregate-with-problem-2
+    (λ c. gradient-fits (given (c .before .before)))  -- array-share-prefix-gradient
+    slice-aggregate-with-problem-3
+    (λ c. residuals-fit (given (c .before .before .before)))  -- array-share-prefix-residuals
+    slice-aggregate-with-problem-4
+    (λ c. square-fits (given (c .before .before .before .before)))  -- slice-reshare-prefix-with-problem
+    slice-aggregate-with-problem-5
+    (λ c. entries-fit (given (c .before .before .before .before .before)))  -- slice-reshare-prefix-with-problem-2
+    slice-aggregate-with-problem-6
+    (λ c. residual-fits (given (c .before .before .before .before .before .before)))  -- array-share-prefix-residual
+    slice-aggregate-with-problem-7
+    (λ c. lower-fits (ends-at (given (c .before .before .before .before .before .before .before))))  -- array-share-prefix-lower
+    slice-aggregate-with-problem-8
+    (λ c. upper-fits (ends-at (given (c .before .before .before .before .before .before .before .before))))  -- array-share-prefix-upper
+    slice-aggregate-with-problem-9
+    with-problem-requires
+    (λ c.
+    let w = called c in
+    w .with-problem .kept .1 .1 .1 .1 .1 .1 .1 .1 .1 .1 .1 .1 .1 .1 .1 .1 .1 .1 .1 .1 .1 .1 .1 .1 .1 .0 ∙ given (lent (w .before)) .gather .kept .1 .1 .1 .1 .1 .1 .1 .1 .1 .1 .1 .0)  -- room
+    (λ c. given (lent (called c .before)) .gather .kept .1 .1 .1 .1 .1 .1 .1 .1 .1 .1 .1 .1 .0)  -- q_free
+    (λ c. given (lent (called c .before)) .gather .kept .1 .1 .1 .1 .1 .1 .1 .1 .1 .1 .1 .1 .1 .0)  -- e_free
+    (λ c. called c .with-problem .kept .1 .1 .1 .1 .1 .1 .1 .1 .1 .1 .1 .1 .1 .1 .1 .1 .1 .1 .1 .1 .1 .1 .1 .1 .1 .1 .0)  -- gram
+    (λ c. called c .with-problem .kept .1 .1 .1 .1 .1 .1 .1 .1 .1 .1 .1 .1 .1 .1 .1 .1 .1 .1 .1 .1 .1 .1 .1 .1 .1 .1 .1 .0)  -- ks
+    (λ c. called c .with-problem .kept .1 .1 .1 .1 .1 .1 .1 .1 .1 .1 .1 .1 .1 .1 .1 .1 .1 .1 .1 .1 .1 .1 .1 .1 .1 .1 .1 .1 .0)  -- es
+    (λ c. called c .with-problem .kept .1 .1 .1 .1 .1 .1 .1 .1 .1 .1 .1 .1 .1 .1 .1 .1 .1 .1 .1 .1 .1 .1 .1 .1 .1 .1 .1 .1 .1 .0)  -- left
+    (λ c. called c .with-problem .kept .1 .1 .1 .1 .1 .1 .1 .1 .1 .1 .1 .1 .1 .1 .1 .1 .1 .1 .1 .1 .1 .1 .1 .1 .1 .1 .1 .1 .1 .1 .0)  -- coefficients
+    (λ c. called c .with-problem .kept .1 .1 .1 .1 .1 .1 .1 .1 .1 .1 .1 .1 .1 .1 .1 .1 .1 .1 .1 .1 .1 .1 .1 .1 .1 .1 .1 .1 .1 .1 .1 .0)  -- range
+    (λ c. called c .with-problem .kept .1 .1 .1 .1 .1 .1 .1 .1 .1 .1 .1 .1 .1 .1 .1 .1 .1 .1 .1 .1 .1 .1 .1 .1 .1 .1 .1 .1 .1 .1 .1 .1 .0)  -- qq
+    (λ c. called c .with-problem .kept .1 .1 .1 .1 .1 .1 .1 .1 .1 .1 .1 .1 .1 .1 .1 .1 .1 .1 .1 .1 .1 .1 .1 .1 .1 .1 .1 .1 .1 .1 .1 .1 .1 .0)  -- null
+    (λ c. called c .with-problem .kept .1 .1 .1 .1 .1 .1 .1 .1 .1 .1 .1 .1 .1 .1 .1 .1 .1 .1 .1 .1 .1 .1 .1 .1 .1 .1 .1 .1 .1 .1 .1 .1 .1 .1 .0)  -- h
+    (λ c. called c .with-problem .kept .1 .1 .1 .1 .1 .1 .1 .1 .1 .1 .1 .1 .1 .1 .1 .1 .1 .1 .1 .1 .1 .1 .1 .1 .1 .1 .1 .1 .1 .1 .1 .1 .1 .1 .1 .0)  -- vectors
+    (λ c. called c .with-problem .kept .1 .1 .1 .1 .1 .1 .1 .1 .1 .1 .1 .1 .1 .1 .1 .1 .1 .1 .1 .1 .1 .1 .1 .1 .1 .1 .1 .1 .1 .1 .1 .1 .1 .1 .1 .1 .0)  -- l
     returns)

@@ -1,7 +1,7 @@
-use Rattle.folds.specs.Kit.{length, needs}
+use Rattle.folds.specs.Kit.{_∙_, length, needs}
 use native.Mathlib.Nat.{le-refl}
-use Rattle.pass.specs.Pass.{madeOf}
-use Rattle.pass.specs.Laws.{still, lead-few, rest-is, split-rising, split-free, pass-without, pass-with}
+use Rattle.free_pass.specs.Laws.{still, made-beside}
+use Rattle.pass.specs.Laws.{lead-few, rest-is, split-rising, split-free, pass-without, pass-with}
 use Rattle.pass.proofs.with_indices.Statement.{statement}
 use Rattle.pass.proofs.with_indices.Tie as tie
 
@@ -24,14 +24,15 @@ without-free-requires : tie.Need-without-free-requires
 without-free-requires c κs = let p = (start (c .before .before)) .pre in (p .0 .within, p .0 .variables, still (p .3) (le-refl _), p .1, p .2)
 
 returns : tie.Need-returns
-unfolding madeOf
 returns c =
     let s = (start (c .before .before .before)) in
     let t = (c .before) .if1 .taken in
     let l = (c .before .before) .split-slacks .ensures in
     let p = s .pre in
-    let e = c .without-free .ensures in
-    (pass-without _ _ _ _ _ _ (s .args .b .now) _ _ _ _ _ (s .args .indices .now) _ _ _ (p .4) l t (e .0 _ (p .0 .columns)), (e .1, p .6))
+    let e = c .without-free .ensures in (
+      made-beside _ _ _ _ ∙ pass-without _ _ _ _ _ _ (s .args .b .now) _ _ _ _ _ (s .args .indices .now) _ _ _ (p .4) l t (e .0 _ (p .0 .columns)),
+      (e .1, p .6),
+    )
 
 with-free-requires : tie.Need-with-free-requires
 with-free-requires c κs =

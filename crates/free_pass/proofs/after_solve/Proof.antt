@@ -2,14 +2,14 @@ use borrow.Author.Needs.{needs}
 use native.Mathlib.Nat.{le-trans}
 use Rattle.solution.specs.Laws.{answer-solved, answer-noOptimum, answer-nonFinite, answer-singular}
 use Rattle.iterate.specs.Laws.{passed-nonFinite, passed-singular}
-use Rattle.pass.specs.Pass.{onSolution}
-use Rattle.pass.proofs.after_solve.Statement.{statement}
-use Rattle.pass.proofs.after_solve.Tie as tie
+use Rattle.free_pass.specs.FreePass.{onSolution}
+use Rattle.free_pass.proofs.after_solve.Statement.{statement}
+use Rattle.free_pass.proofs.after_solve.Tie as tie
 
 abbrev start : tie.After-slice-known9 → tie.Start
 start c =
     let s = c .before .before .before .before .before .before .before .before .before .before .before .before in
-    s .before .before .before .before .before .before .before .before .before .before .before .before
+    s .before .before .before .before .before .before .before .before .before .before .before .before .before .before
 
 abbrev called : tie.After-slice-known18 → tie.After-descend
 called c =
@@ -20,7 +20,7 @@ abbrev told : tie.After-descend → tie.After-enum-told2
 told c = c .before .before .before .before .before .before .before .before .before .before
 
 minimum-requires : tie.Need-minimum-requires
-minimum-requires c κs = let p = (start (c .before .before)) .pre in (p .0, p .1, p .2, p .3, p .4, p .5 .residuals-hold, p .6, p .7, p .5 .kept-below)
+minimum-requires c κs = let p = (start (c .before .before)) .pre in (p .0, p .1, p .2, p .3, p .4, p .5 .residuals-hold, p .6, p .7, p .5 .kept-below, p .12)
 
 descend-requires : tie.Need-descend-requires
 descend-requires c κs =
@@ -39,6 +39,7 @@ descend-requires c κs =
       p .9,
       p .10,
       p .11,
+      p .12,
     )
 
 returns : tie.Need-returns
@@ -76,15 +77,15 @@ after-solve-spec =
     (λ c. search needs)  -- enum-told-4
     (λ c κs. tt)  -- ended-requires-2
     returns
-    (λ c. called c .descend .kept .1 .1 .1 .1 .1 .1 .1 .1 .1 .1 .1 .1 .1 .1 .0)  -- same-length
-    (λ c. called c .descend .kept .1 .1 .1 .1 .1 .1 .1 .1 .1 .1 .1 .1 .1 .1 .1 .0)  -- same-length-2
-    (λ c. called c .descend .kept .1 .1 .1 .1 .1 .1 .1 .1 .1 .1 .1 .1 .1 .1 .1 .1 .0)  -- same-length-3
-    (λ c. called c .descend .kept .1 .1 .1 .1 .1 .1 .1 .1 .1 .1 .1 .1 .1 .1 .1 .1 .1 .0)  -- same-length-4
-    (λ c. called c .descend .kept .1 .1 .1 .1 .1 .1 .1 .1 .1 .1 .1 .1 .1 .1 .1 .1 .1 .1 .0)  -- same-length-5
-    (λ c. called c .descend .kept .1 .1 .1 .1 .1 .1 .1 .1 .1 .1 .1 .1 .1 .1 .1 .1 .1 .1 .1 .0)  -- same-length-6
-    (λ c. called c .descend .kept .1 .1 .1 .1 .1 .1 .1 .1 .1 .1 .1 .1 .1 .1 .1 .1 .1 .1 .1 .1 .0)  -- same-length-7
-    (λ c. called c .descend .kept .1 .1 .1 .1 .1 .1 .1 .1 .1 .1 .1 .1 .1 .1 .1 .1 .1 .1 .1 .1 .1 .0)  -- same-length-8
-    (λ c. called c .descend .kept .1 .1 .1 .1 .1 .1 .1 .1 .1 .1 .1 .1 .1 .1 .1 .1 .1 .1 .1 .1 .1 .1 .0)  -- same-length-9
+    (λ c. called c .descend .kept .1 .1 .1 .1 .1 .1 .1 .1 .1 .1 .1 .1 .1 .1 .1 .1 .0)  -- same-length
+    (λ c. called c .descend .kept .1 .1 .1 .1 .1 .1 .1 .1 .1 .1 .1 .1 .1 .1 .1 .1 .1 .0)  -- same-length-2
+    (λ c. called c .descend .kept .1 .1 .1 .1 .1 .1 .1 .1 .1 .1 .1 .1 .1 .1 .1 .1 .1 .1 .0)  -- same-length-3
+    (λ c. called c .descend .kept .1 .1 .1 .1 .1 .1 .1 .1 .1 .1 .1 .1 .1 .1 .1 .1 .1 .1 .1 .0)  -- same-length-4
+    (λ c. called c .descend .kept .1 .1 .1 .1 .1 .1 .1 .1 .1 .1 .1 .1 .1 .1 .1 .1 .1 .1 .1 .1 .0)  -- same-length-5
+    (λ c. called c .descend .kept .1 .1 .1 .1 .1 .1 .1 .1 .1 .1 .1 .1 .1 .1 .1 .1 .1 .1 .1 .1 .1 .0)  -- same-length-6
+    (λ c. called c .descend .kept .1 .1 .1 .1 .1 .1 .1 .1 .1 .1 .1 .1 .1 .1 .1 .1 .1 .1 .1 .1 .1 .1 .0)  -- same-length-7
+    (λ c. called c .descend .kept .1 .1 .1 .1 .1 .1 .1 .1 .1 .1 .1 .1 .1 .1 .1 .1 .1 .1 .1 .1 .1 .1 .1 .0)  -- same-length-8
+    (λ c. called c .descend .kept .1 .1 .1 .1 .1 .1 .1 .1 .1 .1 .1 .1 .1 .1 .1 .1 .1 .1 .1 .1 .1 .1 .1 .1 .0)  -- same-length-9
     returns-2
     returns-3
     returns-4)

@@ -1,16 +1,16 @@
 use Rattle.folds.specs.Kit.{_≡_, _≤_, sym, _∙_, arith, length, needs}
 use native.Mathlib.Nat.{le-refl, le-trans}
 use lib.Seq.{length-take-le}
-use Rattle.pass.specs.Pass.{madeOf}
-use Rattle.pass.specs.Laws.{still, problem-from}
-use Rattle.pass.proofs.with_problem.Statement.{statement}
-use Rattle.pass.proofs.with_problem.Tie as tie
+use Rattle.free_pass.specs.FreePass.{madeOf}
+use Rattle.free_pass.specs.Laws.{still, problem-from}
+use Rattle.free_pass.proofs.with_problem.Statement.{statement}
+use Rattle.free_pass.proofs.with_problem.Tie as tie
 
 abbrev start : tie.After-solve-free-arg12 → tie.Start
 start c =
     let s = c .before .before .before .before .before .before .before .before .before .before .before .before in
     let t = s .before .before .before .before .before .before .before .before .before .before .before .before in
-    t .before .before .before .before .before .before .before .before .before .before .before .before .before .before
+    t .before .before .before .before .before .before .before .before .before .before .before .before .before .before .before .before
 
 abbrev solve-at : tie.After-left-factoring → tie.After-solve-free
 solve-at c =
@@ -92,6 +92,7 @@ after-solve-requires c κs =
         h-room = still (k .1 .1 .1 .1 .1 .1 .1 .1 .1 .1 .1 .1 .1 .1 .1 .1 .1 .1 .1 .1 .0) (r .squares .h-room);
         vectors-room = still (k .1 .1 .1 .1 .1 .1 .1 .1 .1 .1 .1 .1 .1 .1 .1 .1 .1 .1 .1 .1 .1 .0) (r .squares .vectors-room);
       },
+      p .13,
     )
 
 returns : tie.Need-returns
@@ -114,16 +115,43 @@ with-problem-spec =
     (λ c. multipliers-fit (solve-at (c .before)))  -- array-share-prefix-multipliers
     slice-aggregate-after-solve-2
     after-solve-requires
-    (λ c. solve-at (made (called c)) .solve-free .kept .1 .1 .1 .1 .1 .1 .1 .1 .1 .1 .1 .0)  -- same-length
-    (λ c. solve-at (made (called c)) .solve-free .kept .1 .1 .1 .1 .1 .1 .1 .1 .1 .1 .1 .1 .0)  -- same-length-2
-    (λ c. let a = called c in a .after-solve .kept .1 .1 .1 .1 .1 .1 .1 .1 .1 .1 .1 .1 .1 .1 .1 .1 .1 .1 .1 .1 .1 .1 .1 .0 ∙ solve-at (made a) .solve-free .kept .1 .1 .1 .1 .1 .1 .1 .1 .1 .1 .1 .1 .1 .0)  -- same-length-3
-    (λ c. let a = called c in a .after-solve .kept .1 .1 .1 .1 .1 .1 .1 .1 .1 .1 .1 .1 .1 .1 .1 .1 .1 .1 .1 .1 .1 .1 .1 .1 .0 ∙ solve-at (made a) .solve-free .kept .1 .1 .1 .1 .1 .1 .1 .1 .1 .1 .1 .1 .1 .1 .0)  -- same-length-4
-    (λ c. let a = called c in a .after-solve .kept .1 .1 .1 .1 .1 .1 .1 .1 .1 .1 .1 .1 .1 .1 .1 .1 .1 .1 .1 .1 .1 .1 .1 .1 .1 .0 ∙ solve-at (made a) .solve-free .kept .1 .1 .1 .1 .1 .1 .1 .1 .1 .1 .1 .1 .1 .1 .1 .0)  -- same-length-5
-    (λ c. let a = called c in a .after-solve .kept .1 .1 .1 .1 .1 .1 .1 .1 .1 .1 .1 .1 .1 .1 .1 .1 .1 .1 .1 .1 .1 .1 .1 .1 .1 .1 .0 ∙ solve-at (made a) .solve-free .kept .1 .1 .1 .1 .1 .1 .1 .1 .1 .1 .1 .1 .1 .1 .1 .1 .0)  -- same-length-6
-    (λ c. let a = called c in a .after-solve .kept .1 .1 .1 .1 .1 .1 .1 .1 .1 .1 .1 .1 .1 .1 .1 .1 .1 .1 .1 .1 .1 .1 .1 .1 .1 .1 .1 .0 ∙ solve-at (made a) .solve-free .kept .1 .1 .1 .1 .1 .1 .1 .1 .1 .1 .1 .1 .1 .1 .1 .1 .1 .0)  -- same-length-7
-    (λ c. let a = called c in a .after-solve .kept .1 .1 .1 .1 .1 .1 .1 .1 .1 .1 .1 .1 .1 .1 .1 .1 .1 .1 .1 .1 .1 .1 .1 .1 .1 .1 .1 .1 .0 ∙ solve-at (made a) .solve-free .kept .1 .1 .1 .1 .1 .1 .1 .1 .1 .1 .1 .1 .1 .1 .1 .1 .1 .1 .0)  -- same-length-8
-    (λ c. let a = called c in a .after-solve .kept .1 .1 .1 .1 .1 .1 .1 .1 .1 .1 .1 .1 .1 .1 .1 .1 .1 .1 .1 .1 .1 .1 .1 .1 .1 .1 .1 .1 .1 .0 ∙ solve-at (made a) .solve-free .kept .1 .1 .1 .1 .1 .1 .1 .1 .1 .1 .1 .1 .1 .1 .1 .1 .1 .1 .1 .0)  -- same-length-9
-    (λ c. let a = called c in a .after-solve .kept .1 .1 .1 .1 .1 .1 .1 .1 .1 .1 .1 .1 .1 .1 .1 .1 .1 .1 .1 .1 .1 .1 .1 .1 .1 .1 .1 .1 .1 .1 .0 ∙ solve-at (made a) .solve-free .kept .1 .1 .1 .1 .1 .1 .1 .1 .1 .1 .1 .1 .1 .1 .1 .1 .1 .1 .1 .1 .0)  -- same-length-10
-    (λ c. let a = called c in a .after-solve .kept .1 .1 .1 .1 .1 .1 .1 .1 .1 .1 .1 .1 .1 .1 .1 .1 .1 .1 .1 .1 .1 .1 .1 .1 .1 .1 .1 .1 .1 .1 .1 .0 ∙ solve-at (made a) .solve-free .kept .1 .1 .1 .1 .1 .1 .1 .1 .1 .1 .1 .1 .1 .1 .1 .1 .1 .1 .1 .1 .1 .0)  -- same-length-11
-    (λ c. solve-at (made (called c)) .solve-free .kept .1 .1 .1 .1 .1 .1 .1 .1 .1 .1 .1 .1 .1 .1 .1 .1 .1 .1 .1 .1 .1 .1 .0)  -- same-length-12
+    (λ c. solve-at (made (called c)) .solve-free .kept .1 .1 .1 .1 .1 .1 .1 .1 .1 .1 .1 .0)  -- room
+    (λ c. solve-at (made (called c)) .solve-free .kept .1 .1 .1 .1 .1 .1 .1 .1 .1 .1 .1 .1 .0)  -- gram
+    (λ c.
+    let a = called c in
+    a .after-solve .kept .1 .1 .1 .1 .1 .1 .1 .1 .1 .1 .1 .1 .1 .1 .1 .1 .1 .1 .1 .1 .1 .1 .1 .1 .1 .0
+    ∙ solve-at (made a) .solve-free .kept .1 .1 .1 .1 .1 .1 .1 .1 .1 .1 .1 .1 .1 .0)  -- ks
+    (λ c.
+    let a = called c in
+    a .after-solve .kept .1 .1 .1 .1 .1 .1 .1 .1 .1 .1 .1 .1 .1 .1 .1 .1 .1 .1 .1 .1 .1 .1 .1 .1 .1 .1 .0
+    ∙ solve-at (made a) .solve-free .kept .1 .1 .1 .1 .1 .1 .1 .1 .1 .1 .1 .1 .1 .1 .0)  -- es
+    (λ c.
+    let a = called c in
+    a .after-solve .kept .1 .1 .1 .1 .1 .1 .1 .1 .1 .1 .1 .1 .1 .1 .1 .1 .1 .1 .1 .1 .1 .1 .1 .1 .1 .1 .1 .0
+    ∙ solve-at (made a) .solve-free .kept .1 .1 .1 .1 .1 .1 .1 .1 .1 .1 .1 .1 .1 .1 .1 .0)  -- left
+    (λ c.
+    let a = called c in
+    a .after-solve .kept .1 .1 .1 .1 .1 .1 .1 .1 .1 .1 .1 .1 .1 .1 .1 .1 .1 .1 .1 .1 .1 .1 .1 .1 .1 .1 .1 .1 .0
+    ∙ solve-at (made a) .solve-free .kept .1 .1 .1 .1 .1 .1 .1 .1 .1 .1 .1 .1 .1 .1 .1 .1 .0)  -- coefficients
+    (λ c.
+    let a = called c in
+    a .after-solve .kept .1 .1 .1 .1 .1 .1 .1 .1 .1 .1 .1 .1 .1 .1 .1 .1 .1 .1 .1 .1 .1 .1 .1 .1 .1 .1 .1 .1 .1 .0
+    ∙ solve-at (made a) .solve-free .kept .1 .1 .1 .1 .1 .1 .1 .1 .1 .1 .1 .1 .1 .1 .1 .1 .1 .0)  -- range
+    (λ c.
+    let a = called c in
+    a .after-solve .kept .1 .1 .1 .1 .1 .1 .1 .1 .1 .1 .1 .1 .1 .1 .1 .1 .1 .1 .1 .1 .1 .1 .1 .1 .1 .1 .1 .1 .1 .1 .0
+    ∙ solve-at (made a) .solve-free .kept .1 .1 .1 .1 .1 .1 .1 .1 .1 .1 .1 .1 .1 .1 .1 .1 .1 .1 .0)  -- qq
+    (λ c.
+    let a = called c in
+    a .after-solve .kept .1 .1 .1 .1 .1 .1 .1 .1 .1 .1 .1 .1 .1 .1 .1 .1 .1 .1 .1 .1 .1 .1 .1 .1 .1 .1 .1 .1 .1 .1 .1 .0
+    ∙ solve-at (made a) .solve-free .kept .1 .1 .1 .1 .1 .1 .1 .1 .1 .1 .1 .1 .1 .1 .1 .1 .1 .1 .1 .0)  -- null
+    (λ c.
+    let a = called c in
+    a .after-solve .kept .1 .1 .1 .1 .1 .1 .1 .1 .1 .1 .1 .1 .1 .1 .1 .1 .1 .1 .1 .1 .1 .1 .1 .1 .1 .1 .1 .1 .1 .1 .1 .1 .0
+    ∙ solve-at (made a) .solve-free .kept .1 .1 .1 .1 .1 .1 .1 .1 .1 .1 .1 .1 .1 .1 .1 .1 .1 .1 .1 .1 .0)  -- h
+    (λ c.
+    let a = called c in
+    a .after-solve .kept .1 .1 .1 .1 .1 .1 .1 .1 .1 .1 .1 .1 .1 .1 .1 .1 .1 .1 .1 .1 .1 .1 .1 .1 .1 .1 .1 .1 .1 .1 .1 .1 .1 .0
+    ∙ solve-at (made a) .solve-free .kept .1 .1 .1 .1 .1 .1 .1 .1 .1 .1 .1 .1 .1 .1 .1 .1 .1 .1 .1 .1 .1 .0)  -- vectors
+    (λ c. solve-at (made (called c)) .solve-free .kept .1 .1 .1 .1 .1 .1 .1 .1 .1 .1 .1 .1 .1 .1 .1 .1 .1 .1 .1 .1 .1 .1 .0)  -- l
     returns)

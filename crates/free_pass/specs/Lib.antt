@@ -1,0 +1,2 @@
+pub mod FreePass
+pub mod Laws
