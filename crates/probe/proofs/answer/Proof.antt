@@ -9,22 +9,26 @@ positive-definite-requires c κs =
     let h = matrices-true _ _ _ _ _ _ _ (sym (c .before .before .before .matrices .ensures) ∙ c .before .before .if1 .taken) in omega (arith, h .factor)
 
 solved-requires : tie.Need-solved-requires
-solved-requires c κs = (
-  matrices-true _ _ _ _ _ _ _ (sym (c .before .before .before .before .before .before .before .before .before .matrices .ensures) ∙ c .before .before .before .before .before .before .before .before .if1 .taken),
-  vectors-true _ _ _ _ _ _ (sym (c .before .before .before .before .before .before .before .vectors .ensures) ∙ c .before .before .before .before .before .before .if2 .taken),
-  definite-regular _ _ (sym (c .before .before .before .before .before .positive-definite .ensures) ∙ c .before .before .before .before .if3 .taken),
-)
+solved-requires c κs =
+    let d = c .before .before .before .before in
+    let v = d .before .before in
+    let m = v .before .before in (
+      matrices-true _ _ _ _ _ _ _ (sym (m .before .matrices .ensures) ∙ m .if1 .taken),
+      vectors-true _ _ _ _ _ _ (sym (v .before .vectors .ensures) ∙ v .if2 .taken),
+      definite-regular _ _ (sym (d .before .positive-definite .ensures) ∙ d .if3 .taken),
+    )
 
 returns : tie.Need-returns
 unfolding solve pick
 returns c =
+    let d = c .before .before .before .before .before .before .before .before .before .before .before .before .before in
     rw (
-      ← c .before .before .before .before .before .before .before .before .before .before .before .before .before .before .before .before .before .before .matrices .ensures,
-      c .before .before .before .before .before .before .before .before .before .before .before .before .before .before .before .before .before .if1 .taken,
-      ← c .before .before .before .before .before .before .before .before .before .before .before .before .before .before .before .before .vectors .ensures,
-      c .before .before .before .before .before .before .before .before .before .before .before .before .before .before .before .if2 .taken,
-      ← c .before .before .before .before .before .before .before .before .before .before .before .before .before .before .positive-definite .ensures,
-      c .before .before .before .before .before .before .before .before .before .before .before .before .before .if3 .taken,
+      ← d .before .before .before .before .before .matrices .ensures,
+      d .before .before .before .before .if1 .taken,
+      ← d .before .before .before .vectors .ensures,
+      d .before .before .if2 .taken,
+      ← d .before .positive-definite .ensures,
+      d .if3 .taken,
     ) (c .before .before .before .before .before .before .before .before .solved .ensures)
 
 returns-2 : tie.Need-returns-2

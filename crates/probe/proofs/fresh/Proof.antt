@@ -12,10 +12,13 @@ use Rattle.probe.proofs.fresh.Statement.{statement}
 use Rattle.probe.proofs.fresh.Tie as tie
 
 few : (c : tie.After-rising) → c .rising .result ≤ c .before .before .before .before .before .before .before .before .args .n
-few c = rw (c .rising .ensures .0) (rising-few (c .before .before .before .before .before .before .before .before .args .n) (replicate Sizes.originals true))
+few c =
+    let s = c .before .before .before .before .before .before .before .before in
+    rw (c .rising .ensures .0) (rising-few (s .args .n) (replicate Sizes.originals true))
 
 -- the part of the array that is lent is the list
-lent : (c : tie.After-rising) → take (c .rising .result) (c .rising .last .1 .1 .0) ≡ rising (c .before .before .before .before .before .before .before .before .args .n) (replicate Sizes.originals true)
+lent : (c : tie.After-rising) → let s = c .before .before .before .before .before .before .before .before in
+    take (c .rising .result) (c .rising .last .1 .1 .0) ≡ rising (s .args .n) (replicate Sizes.originals true)
 lent c = taken-over _ _ (sym (c .rising .ensures .0)) (c .rising .ensures .1)
 
 slice-aggregate-fresh : tie.Need-slice-aggregate-fresh
@@ -24,7 +27,8 @@ slice-aggregate-fresh c = let r = c .before .before in rw (lent r) (r .rising .e
 fresh-requires : tie.Need-fresh-requires
 fresh-requires c κs =
     let n = c .before .before .before .before .before .before .before .before .before .before .before .before .args .n in
-    let h = shape _ _ _ _ _ (sym (c .before .before .before .before .before .before .before .shaped .ensures) ∙ c .before .before .before .before .before .before .if2 .taken) in
+    let t = c .before .before .before .before .before .before in
+    let h = shape _ _ _ _ _ (sym (t .before .shaped .ensures) ∙ t .if2 .taken) in
     let k : length (rising n (replicate Sizes.originals true)) ≤ n = rising-few n (replicate Sizes.originals true) in (
       omega (arith, h .matrix),
       rw (lent (c .before .before .before .before)) (rising-below n (replicate Sizes.originals true)),
@@ -35,7 +39,10 @@ fresh-requires c κs =
 returns-2 : tie.Need-returns-2
 unfolding fresh pick
 returns-2 c =
-    rw (le-leb _ _ (c .before .before .before .before .before .before .before .before .before .before .before .before .before .if1 .left), ← c .before .before .before .before .before .before .before .before .before .before .before .before .shaped .ensures, c .before .before .before .before .before .before .before .before .before .before .before .if2 .taken, ← lent (c .before .before .before .before .before .before .before .before .before)) (c .before .before .before .before .fresh .ensures)
+    let r = c .before .before .before .before .before .before .before .before .before in
+    let t = r .before .before in
+    rw (le-leb _ _ (t .before .before .if1 .left), ← t .before .shaped .ensures, t .if2 .taken, ← lent r)
+    (c .before .before .before .before .fresh .ensures)
 
 pub fresh-spec : {M : Type 1} → statement M
 unfolding fresh pick

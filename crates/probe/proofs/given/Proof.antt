@@ -14,9 +14,10 @@ slice-aggregate-copy-2 c = sym (length-take-le _ _ (omega (arith, c .before .bef
 returns : tie.Need-returns
 returns c =
     let p = c .before .before .before .before .before .before .before .before .before .before .before .before .before .pre in
+    let y = c .before .before .before .before .before .before .before in
     rw (
-      c .before .before .before .before .before .before .before .before .before .before .if1 .taken,
-      c .before .before .before .before .before .before .before .copy .ensures ∙ copy-over _ _ _ (sym (slice-aggregate-copy (c .before .before .before .before .before .before .before .before .before))) (p .2),
+      y .before .before .before .if1 .taken,
+      y .copy .ensures ∙ copy-over _ _ _ (sym (slice-aggregate-copy (y .before .before))) (p .2),
       c .before .before .copy2 .ensures ∙ copy-over _ _ _ (sym (slice-aggregate-copy-2 (c .before .before .before .before))) (p .3),
     )
 
@@ -29,7 +30,8 @@ given-spec =
     (λ c κs. (omega (arith, slice-aggregate-copy (c .before)), omega arith))  -- copy-requires
     (λ c. omega (arith, c .before .before .before .before .before .before .before .before .pre .1))  -- array-share-prefix-fm
     slice-aggregate-copy-2  -- slice-aggregate-copy-2
-    (λ c κs. (omega (arith, slice-aggregate-copy-2 (c .before)), omega (arith, c .before .before .before .before .before .before .before .before .before .before .pre .3)))  -- copy-requires-2
+    (λ c κs. let p = c .before .before .before .before .before .before .before .before .before .before .pre in
+    (omega (arith, slice-aggregate-copy-2 (c .before)), omega (arith, p .3)))  -- copy-requires-2
     (λ c. search needs)  -- same-length
     (λ c. search needs)  -- same-length-2
     returns  -- returns

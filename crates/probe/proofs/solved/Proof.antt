@@ -29,9 +29,12 @@ solved-spec =
     tie.close
     (tie.spec
     solve-factored-requires  -- solve-factored-requires
-    (λ c κs. let p = c .before .before .before .before .before .before .before .before .before .before .before .before .before .before .before .before .before .before .before .before .pre in (p .0 .few, p .0 .columns, p .1 .point, p .1 .prices))  -- given-requires
+    (λ c κs. let f = c .before .before .before .before .before .before .before .before in
+    let p = f .before .before .before .before .before .before .before .before .before .before .before .before .pre in
+    (p .0 .few, p .0 .columns, p .1 .point, p .1 .prices))  -- given-requires
     (λ c. search needs)  -- same-length
     (λ c. search needs)  -- same-length-2
     (λ c. search needs)  -- same-length-3
     (λ c. search needs)  -- same-length-4
-    (λ c. rw (← c .before .before .before .before .before .before .before .before .before .before .before .before .before .solve-factored .ensures, found-is _ _ (c .before .before .before .before .before .before .before .before .before .before .before .before .before .solve-factored .result)) (c .before .before .before .before .given .ensures)))  -- returns
+    (λ c. let f = c .before .before .before .before .before .before .before .before .before .before .before .before .before in
+    rw (← f .solve-factored .ensures, found-is _ _ (f .solve-factored .result)) (c .before .before .before .before .given .ensures)))  -- returns

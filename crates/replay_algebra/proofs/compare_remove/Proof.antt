@@ -14,7 +14,7 @@ compare-remove-spec =
     (λ c κs. search needs)  -- array-requires
     (λ c. search needs)  -- slice-aggregate-remove-column
     (λ c. search needs)  -- slice-aggregate-remove-column-2
-    (λ c κs. search (needs, mul-le-mul (c .before .before .before .before .before .before .if1 .left) (c .before .before .before .before .before .before .if1 .left)))  -- remove-column-requires
+    (λ c κs. let t = c .before .before .before .before .before .before in search (needs, mul-le-mul (t .if1 .left) (t .if1 .left)))  -- remove-column-requires
     (λ c. search needs)  -- slice-aggregate-lower-differing
     (λ c. search needs)  -- sub-lower-differing
     (λ c κs. search needs)  -- lower-differing-requires

@@ -17,9 +17,12 @@ compare-solution-spec =
     (λ c κs. search needs)  -- differing-requires
     (λ c κs. search needs)  -- byte-requires
     (λ c. let s = c .before .before .before .before .before .before .before .before in omega (arith, s .pre, lengths s))  -- array-share-prefix-x
-    (λ c. let s = c .before .before .before .before .before .before .before .before .before in sym (length-take-le _ _ (omega (arith, s .pre, lengths s))))  -- slice-aggregate-compare-answer
-    (λ c. let s = c .before .before .before .before .before .before .before .before .before in omega (arith, s .pre, lengths s))  -- array-share-prefix-multipliers
-    (λ c. let s = c .before .before .before .before .before .before .before .before .before .before in sym (length-take-le _ _ (omega (arith, s .pre, lengths s))))  -- slice-aggregate-compare-answer-2
+    (λ c. let s = c .before .before .before .before .before .before .before .before .before in
+    sym (length-take-le _ _ (omega (arith, s .pre, lengths s))))  -- slice-aggregate-compare-answer
+    (λ c. let s = c .before .before .before .before .before .before .before .before .before in
+    omega (arith, s .pre, lengths s))  -- array-share-prefix-multipliers
+    (λ c. let s = c .before .before .before .before .before .before .before .before .before .before in
+    sym (length-take-le _ _ (omega (arith, s .pre, lengths s))))  -- slice-aggregate-compare-answer-2
     (λ c κs. search needs)  -- compare-answer-requires
     (λ c. search needs)  -- returns
     (λ c. search needs)  -- returns-2

@@ -11,12 +11,13 @@ slice-aggregate-run-steps c = sym (length-take-le _ _ (omega arith))
 
 run-steps-requires : tie.Need-run-steps-requires
 run-steps-requires c κs =
-    let k = c .before .before .before .before .before in
+    let r = c .before .before .before in
+    let k = r .before .before in
     let few = k .before .if2 .left in (
       record {
         few = few;
         within = k .if3 .left;
-        q-holds = omega (arith, slice-aggregate-run-steps (c .before .before), c .before .before .before .before .area .ensures, c .before .before .before .if4 .left);
+        q-holds = omega (arith, slice-aggregate-run-steps (c .before .before), r .before .area .ensures, r .if4 .left);
       },
       k .before .before .if1 .left,
       omega (arith, mul-le-mul few few),

@@ -22,7 +22,10 @@ run-steps-spec =
     μ-loop
     (λ c κs. search needs)  -- new-requires
     (λ c. (omega arith, refl, rw (c .new .ensures) (good-new _ _)))  -- loop-holds
-    (λ c κs. let p = c .before .before .before .before .before .before .before .pre in let i = c .before .before .loop .inv in (p .0, p .1, i .2, rw (i .1) (p .2)))  -- step-requires
+    (λ c κs.
+    let p = c .before .before .before .before .before .before .before .pre in
+    let i = c .before .before .loop .inv in
+    (p .0, p .1, i .2, rw (i .1) (p .2)))  -- step-requires
     (λ c. search needs)  -- add-counter
     (λ c. search needs)  -- loop-less
     (λ c. (omega arith, c .before .l .given ∙ c .before .before .before .before .before .loop .inv .1, c .before .before .step .ensures))  -- loop-again

@@ -24,7 +24,10 @@ run-system-spec =
     (λ c κs. search needs)  -- byte-requires
     (λ c κs. search needs)  -- byte-requires-2
     (λ c. search needs)  -- array-share-prefix-l
-    (λ c. sym (length-take-le _ _ (omega (arith, c .before .before .before .before .before .before .before .before .before .before .before .before .before .before .before .before .before .before .before .slice .ensures))))  -- slice-aggregate-shaped
+    (λ c.
+    let m = c .before .before .before .before .before .before .before in
+    let l = m .before .before .before .before .before .before .before .before .before .before .before .before in
+    sym (length-take-le _ _ (omega (arith, l .slice .ensures))))  -- slice-aggregate-shaped
     (λ c. search needs)  -- array-share-prefix-k
     (λ c. sym (length-take-le _ _ (omega arith)))  -- slice-aggregate-shaped-2
     (λ c. search needs)  -- array-share-prefix-c

@@ -23,7 +23,8 @@ set-differs-spec =
     (λ c κs. search needs)  -- rising-requires
     (λ c. search needs)  -- returns
     (λ c. omega (arith, c .if1 .left, list-length (c .before .before .before .before .before .before)))  -- array-share-prefix-list
-    (λ c. sym (length-take-le _ _ (omega (arith, c .before .if1 .left, list-length (c .before .before .before .before .before .before .before)))))  -- slice-aggregate-lists-differ
+    (λ c. let t = c .before in
+    sym (length-take-le _ _ (omega (arith, t .if1 .left, list-length (t .before .before .before .before .before .before)))))  -- slice-aggregate-lists-differ
     (λ c. omega (arith, few (c .before .before .before .before)))  -- array-share-prefix-set
     (λ c. sym (length-take-le _ _ (omega (arith, few (c .before .before .before .before .before)))))  -- slice-aggregate-lists-differ-2
     (λ c κs. search needs)  -- lists-differ-requires

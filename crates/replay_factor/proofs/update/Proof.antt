@@ -12,20 +12,25 @@ use Rattle.replay_factor.proofs.update.Statement.{statement}
 use Rattle.replay_factor.proofs.update.Tie as tie
 
 few : (c : tie.After-rising) → c .rising .result ≤ c .before .before .before .before .before .before .before .before .args .originals
-few c = rw (c .rising .ensures .0) (rising-few (c .before .before .before .before .before .before .before .before .args .originals) (c .before .before .marks .result))
+few c =
+    let s = c .before .before .before .before .before .before .before .before in
+    rw (c .rising .ensures .0) (rising-few (s .args .originals) (c .before .before .marks .result))
 
 -- the part of the array that is lent is the set, in rising order
-lent : (c : tie.After-rising) → take (c .rising .result) (c .rising .last .1 .1 .0) ≡ rising (c .before .before .before .before .before .before .before .before .args .originals) (c .before .before .marks .result)
+lent : (c : tie.After-rising) → let s = c .before .before .before .before .before .before .before .before in
+    take (c .rising .result) (c .rising .last .1 .1 .0) ≡ rising (s .args .originals) (c .before .before .marks .result)
 lent c = taken-over _ _ (sym (c .rising .ensures .0)) (c .rising .ensures .1)
 
-rises : (c : tie.After-rising) → Rising (c .before .before .before .before .before .before .before .before .args .originals) (take (c .rising .result) (c .rising .last .1 .1 .0))
+rises : (c : tie.After-rising) → let s = c .before .before .before .before .before .before .before .before in
+    Rising (s .args .originals) (take (c .rising .result) (c .rising .last .1 .1 .0))
 unfolding rising
 rises c = rw (lent c) (rising-chosen _ _)
 
 update-requires : tie.Need-update-requires
 update-requires c κs =
     let r = c .before .before .before .before .before in
-    let p = r .before .before .before .before .before .before .before .before .pre in (p .0, rises r, p .2, p .3, omega (arith, mul-le-mul (p .0 .few) (p .1)))
+    let p = r .before .before .before .before .before .before .before .before .pre in
+    (p .0, rises r, p .2, p .3, omega (arith, mul-le-mul (p .0 .few) (p .1)))
 
 pub update-spec : {M : Type 1} → statement M
 update-spec =
@@ -36,7 +41,8 @@ update-spec =
     (λ c κs. search needs)  -- marks-requires
     (λ c. search needs)  -- slice-aggregate-rising
     (λ c κs. search needs)  -- rising-requires
-    (λ c. let r = c .before .before in omega (arith, few r, r .before .before .before .before .before .before .before .before .pre .0 .few))  -- array-share-prefix-list
+    (λ c. let r = c .before .before in
+    omega (arith, few r, r .before .before .before .before .before .before .before .before .pre .0 .few))  -- array-share-prefix-list
     (λ c. let r = c .before .before .before in rw (lent r) (r .rising .ensures .0))  -- slice-aggregate-update
     (λ c. search needs)  -- slice-aggregate-update-2
     update-requires  -- update-requires
