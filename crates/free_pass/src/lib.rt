@@ -1,6 +1,6 @@
-// qp.rs, a pass of `solve_piecewise_in_units`: the solve of the problem in the free variables, and what follows it. Q is n by n, E is n by m; the variables
-// from `originals` on are slacks, each with one of the last columns of E. `indices` are the free variables, `solved` those of them below `originals`,
-// `slacks` the others. The slices from room or ks on are work memory, but l, which holds the kept factor.
+// qp.rs, a pass of `solve_piecewise_in_units`: the solve of the problem in the free variables, and what follows it. Q is n by n, E is n by m;
+// the variables from `originals` on are slacks, each with one of the last columns of E. `indices` are the free variables, `solved` those of them
+// below `originals`, `slacks` the others. The slices from room or ks on are work memory, but l, which holds the kept factor.
 ghost use Prim.Native.Nat.{_≤_, _*_};
 ghost use lib.ListN.{length};
 ghost use Rattle.sizes.specs.Sizes as Sizes;
@@ -79,9 +79,10 @@ fn after_solve(
         × Tall (length (now solved)) (length (now kept)) (now left) (now coefficients) (now range)
         × Squares (length (now solved)) (now qq) (now null) (now h) (now vectors)
         × Ends n segments (iterate .board .state) (now lower) (now upper) ⌝ }
-    ensures { λ r. ⌜ Definition.OnSolution originals n m (now (q .entry)) (now (c .entry)) (now (e .entry)) segments (now (fixed .entry)) «q_amax» linear
-        (now (solved .entry)) (now (slacks .entry)) (now (kept .entry)) (now («c_free» .entry)) (now (gradient .entry)) (now (residuals .entry))
-        (now («q_free» .entry)) (now («e_free» .entry)) iterate (answer verdict (now (delta .entry)) (now (multipliers .entry))) r ⌝ }
+    ensures { λ r. ⌜ Definition.OnSolution originals n m (now (q .entry)) (now (c .entry)) (now (e .entry)) segments (now (fixed .entry))
+        «q_amax» linear (now (solved .entry)) (now (slacks .entry)) (now (kept .entry)) (now («c_free» .entry)) (now (gradient .entry))
+        (now (residuals .entry)) (now («q_free» .entry)) (now («e_free» .entry)) iterate
+        (answer verdict (now (delta .entry)) (now (multipliers .entry))) r ⌝ }
     ensures { λ r. ⌜ Kept n segments (r .iterate) ⌝ }
 {
     match verdict {
@@ -194,9 +195,10 @@ pub fn with_problem(
         × Good originals factoring (now l)
         × (originals * originals ≤ length (now l))
         × Ends n segments (iterate .board .state) (now lower) (now upper) ⌝ }
-    ensures { λ r. ⌜ Definition.OnProblem originals n m (now (q .entry)) (now (c .entry)) (now (e .entry)) segments (now (fixed .entry)) «q_amax» linear
-        (now (solved .entry)) (now (slacks .entry)) (now (kept .entry)) (now («c_free» .entry)) (now (gradient .entry)) (now (residuals .entry))
-        (now («q_free» .entry)) (now («e_free» .entry)) (now (residual .entry)) noise iterate factoring (now (l .entry)) r (now (l .exit)) ⌝ }
+    ensures { λ r. ⌜ Definition.OnProblem originals n m (now (q .entry)) (now (c .entry)) (now (e .entry)) segments (now (fixed .entry))
+        «q_amax» linear (now (solved .entry)) (now (slacks .entry)) (now (kept .entry)) (now («c_free» .entry)) (now (gradient .entry))
+        (now (residuals .entry)) (now («q_free» .entry)) (now («e_free» .entry)) (now (residual .entry)) noise iterate factoring (now (l .entry)) r
+        (now (l .exit)) ⌝ }
     ensures { λ r. ⌜ Kept n segments (r .passed .iterate) × Good originals (r .factoring) (now (l .exit)) ⌝ }
 {
     let k = solved.len();

@@ -1,6 +1,5 @@
 -- qp.rs, a pass of `solve_piecewise_in_units`: the problem in the free variables. Q is n by n, E is n by m; `solved` are the free variables below
 -- `originals`, `slacks` the free ones from there on.
-use mathlib.Core.Path.{_≡_}
 use Prim.Native.Nat.{ℕ, _*_}
 use mathlib.Core.List.{List}
 use lib.Ieee.{Float}

@@ -1,23 +1,16 @@
--- Laws of the definitions: the lengths, the columns kept, what the code leaves of each part, and what a function's calls leave, put together.
-use mathlib.Core.Path.{_≡_, refl, ap}
+-- Laws of the definitions: the columns kept, what a function's calls leave, put together, and what the code leaves of each part.
+use mathlib.Core.Path.{_≡_, ap}
 use mathlib.Core.List.{List}
-use Prim.Native.Nat.{ℕ, _*_, _≤_}
+use Prim.Native.Nat.{ℕ, _*_}
 use lib.Ieee.{Float}
 use lib.ListN.{length, take}
 use Rattle.vector.specs.Vector.{Below, select}
-use Rattle.vector.specs.Laws.{length-sub, length-select}
 use Rattle.matrix.specs.Matrix.{selectRows}
-use Rattle.matrix.specs.Laws.{length-selectColumns}
 use Rattle.slack_rows.specs.SlackRows.{keptColumns, stepNoise}
 use Rattle.slack_rows.specs.Laws as SlackRows
 use Rattle.iterate.specs.Problem.{problem, firstSlackColumn}
 use Rattle.free_problem.specs.declared.Free.{Free}
 use Rattle.free_problem.specs.FreeProblem.{block, linear, gradient, residuals, Gathered, gatheredOf, gather}
-
--- ---- lengths
-pub length-block : (n m : ℕ) (a : List Float) (rows columns : List ℕ) → length (block n m a rows columns) ≡ length rows * length columns
-unfolding block
-length-block n m a rows columns = length-selectColumns (length rows) (selectRows n m a (length rows) rows) (length columns) columns
 
 module _ (originals n m : ℕ) (q c e b x : List Float) (solved slacks : List ℕ) (slope : List Float) where
   abbrev columns : List ℕ
@@ -25,38 +18,6 @@ module _ (originals n m : ℕ) (q c e b x : List Float) (solved slacks : List �
 
   abbrev whole : Gathered
   whole = gather (problem originals n m q c e b) x solved slacks slope
-
-  pub gather-kept : whole .kept ≡ columns
-  unfolding gather
-  gather-kept = refl
-
-  pub length-c : length (whole .c) ≡ length solved
-  unfolding gather linear
-  length-c = length-sub (length solved) _ _
-
-  pub length-gradient : length (whole .gradient) ≡ length solved
-  unfolding gather gradient
-  length-gradient = length-sub (length solved) _ _
-
-  pub length-residuals : length (whole .residuals) ≡ m
-  unfolding gather residuals
-  length-residuals = length-sub m _ _
-
-  pub length-residual : length (whole .residual) ≡ length (whole .kept)
-  unfolding gather
-  length-residual = length-select (length columns) _ _
-
-  pub length-q : length (whole .«q_free») ≡ length solved * length solved
-  unfolding gather
-  length-q = length-block n n q solved solved
-
-  pub length-e : length (whole .«e_free») ≡ length solved * length (whole .kept)
-  unfolding gather
-  length-e = length-block n m e solved columns
-
-  pub kept-few : length (whole .kept) ≤ m
-  unfolding gather
-  kept-few = SlackRows.kept-few e n m solved slacks originals (firstSlackColumn originals n m)
 
   pub kept-below : Below (length (whole .kept)) (whole .kept) m
   unfolding gather

@@ -14,6 +14,7 @@ use Rattle.folds.specs.Run.{Pass}
 use Rattle.folds.specs.Chosen.{chosen}
 use Rattle.folds.specs.Position.{partitionPoint, split-within}
 use Rattle.sizes.specs.Sizes as Sizes
+use Rattle.vector.specs.Vector.{Below}
 use Rattle.factor.specs.Factor.{Rising}
 use Rattle.factor.specs.Laws.{rising-chosen}
 use Rattle.factoring.specs.declared.Factoring.{Factoring}
@@ -34,6 +35,14 @@ use Rattle.free_step.specs.FreeStep.{Split}
 use Rattle.free_pass.specs.FreePass.{State, state, beside, onProblem}
 use Rattle.free_pass.specs.Laws.{within}
 use Rattle.pass.specs.Pass.{withFree, pass}
+
+-- a list that is known
+module _ {l known : List ℕ} {b : ℕ} (e : l ≡ known) where
+  pub listed-within : length known ≤ b → length l ≤ b
+  listed-within h = rw e h
+
+  pub listed-below : Below (length known) known b → Below (length l) l b
+  listed-below h = rw e h
 
 -- ---- the split
 free-chosen : (n : ℕ) (state : List Spot) → freeIndices n state ≡ chosen n (λ i. isFree (stateAt state i))
@@ -75,7 +84,8 @@ module _ {indices solved : List ℕ} (originals n : ℕ) (state : List Spot) (wi
           counted = rw (rest, length-drop) (omega (arith, lead-length originals indices lead, split-within originals indices));
           solved-are = rw (lead, free, free-chosen n state) (SlackRows.split-solved n m originals first room _ within e entries);
           slacks-are =
-              rw (rest, lead-length originals indices lead, free, free-chosen n state) (SlackRows.split-rows n m originals first room _ within few (omega arith));
+              rw (rest, lead-length originals indices lead, free, free-chosen n state)
+              (SlackRows.split-rows n m originals first room _ within few (omega arith));
         }
 
 -- ---- what the calls give

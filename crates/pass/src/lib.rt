@@ -1,6 +1,6 @@
-// qp.rs, a pass of `solve_piecewise_in_units`. Q is n by n, E is n by m; the variables from `originals` on are slacks, each with one of the last columns
-// of E. `indices` are the free variables, `solved` those of them below `originals`, `slacks` the others. The slices from room on are work memory, but l,
-// which holds the kept factor.
+// qp.rs, a pass of `solve_piecewise_in_units`. Q is n by n, E is n by m; the variables from `originals` on are slacks, each with one of the last
+// columns of E. `indices` are the free variables, `solved` those of them below `originals`, `slacks` the others. The slices from room on are work
+// memory, but l, which holds the kept factor.
 ghost use mathlib.Core.Path.{_≡_};
 ghost use Prim.Native.Nat.{_≤_, _*_};
 ghost use lib.ListN.{length};

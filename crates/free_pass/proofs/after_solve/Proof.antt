@@ -55,14 +55,18 @@ returns-2 c =
 returns-3 : tie.Need-returns-3
 unfolding onSolution
 returns-3 c =
-    let e = c .ended .ensures in
-    (λ b. rw ((c .before) .enum-told3 .given .1, answer-nonFinite) (passed-nonFinite _ _ (c .ended .result) (e .0)), rw (e .1) ((start (c .before .before .before)) .pre .2))
+    let e = c .ended .ensures in (
+      λ b. rw (c .before .enum-told3 .given .1, answer-nonFinite) (passed-nonFinite _ _ (c .ended .result) (e .0)),
+      rw (e .1) (start (c .before .before .before) .pre .2),
+    )
 
 returns-4 : tie.Need-returns-4
 unfolding onSolution
 returns-4 c =
-    let e = c .ended2 .ensures in
-    (λ b. rw ((c .before) .enum-told4 .given .1, answer-singular) (passed-singular _ _ (c .ended2 .result) (e .0)), rw (e .1) ((start (c .before .before .before)) .pre .2))
+    let e = c .ended2 .ensures in (
+      λ b. rw (c .before .enum-told4 .given .1, answer-singular) (passed-singular _ _ (c .ended2 .result) (e .0)),
+      rw (e .1) (start (c .before .before .before) .pre .2),
+    )
 
 pub after-solve-spec : {M : Type 1} → statement M
 after-solve-spec =

@@ -1,4 +1,4 @@
-use Rattle.folds.specs.Kit.{_≡_, ℕ, _≤_, _*_, sym, _∙_, arith, length, needs}
+use Rattle.folds.specs.Kit.{_≡_, ℕ, _≤_, _*_, sym, _∙_, arith, length}
 use native.Mathlib.Nat.{le-refl, le-trans}
 use mathlib.Core.List.{List}
 use lib.ListN.{take}
@@ -16,8 +16,11 @@ use Rattle.free_problem.proofs.gather.Statement.{statement}
 use Rattle.free_problem.proofs.gather.Tie as tie
 
 -- ---- from each call to the one before it
+abbrev known : tie.After-slice-known8 → tie.Start
+known c = let s = c .before .before .before .before .before .before .before .before in s .before .before .before .before .before .before .before .before
+
 abbrev start : tie.After-kept-columns-arg → tie.Start
-start c = let s = c .before .before .before .before .before .before .before .before .before in s .before .before .before .before .before .before .before .before
+start c = known (c .before)
 
 abbrev kept-at : tie.After-block → tie.After-kept-columns
 kept-at c = c .before .before .before .before .before .before
@@ -37,14 +40,17 @@ gradient-at c = c .before .before .before .before
 abbrev residuals-at : tie.After-select → tie.After-residuals-at
 residuals-at c = c .before .before .before .before .before .before
 
+abbrev square-of : tie.After-residuals-at → tie.After-block2
+square-of c = square-at (linear-at (gradient-at c))
+
 abbrev kept-of : tie.After-residuals-at → tie.After-kept-columns
-kept-of c = kept-at (entries-at (square-at (linear-at (gradient-at c))))
+kept-of c = kept-at (entries-at (square-of c))
 
 abbrev start-of : tie.After-block2 → tie.Start
 start-of c = start (kept-at (entries-at c) .before)
 
 abbrev start-at : tie.After-residuals-at → tie.Start
-start-at c = start-of (square-at (linear-at (gradient-at c)))
+start-at c = start-of (square-of c)
 
 -- ---- the columns kept, at most m
 abbrev columns : tie.Start → List ℕ
@@ -115,7 +121,8 @@ mul-rows c =
 
 linear-requires : tie.Need-linear-requires
 linear-requires c κs =
-    let p = start-of (c .before .before .before .before .before) .pre in (p .0 .c-holds, le-trans (p .4) (p .0 .few), p .2 .below, p .5, le-trans (p .4) (p .10))
+    let p = start-of (c .before .before .before .before .before) .pre in
+    (p .0 .c-holds, le-trans (p .4) (p .0 .few), p .2 .below, p .5, le-trans (p .4) (p .10))
 
 slice-aggregate-gradient : tie.Need-slice-aggregate-gradient
 slice-aggregate-gradient c = sym (length-take-le _ _ (rows-fit (square-at (c .before .before .before))))
@@ -155,7 +162,7 @@ select-requires c κs =
     )
 
 slice-aggregate-step-noise : tie.Need-slice-aggregate-step-noise
-slice-aggregate-step-noise c = sym (length-take-le _ _ (rows-fit (square-at (linear-at (gradient-at (residuals-at (c .before .before .before)))))))
+slice-aggregate-step-noise c = sym (length-take-le _ _ (rows-fit (square-of (residuals-at (c .before .before .before)))))
 
 slice-aggregate-step-noise-2 : tie.Need-slice-aggregate-step-noise-2
 slice-aggregate-step-noise-2 c = sym (length-take-le _ _ (c-fits (linear-at (gradient-at (residuals-at (c .before .before .before .before))))))
@@ -180,8 +187,9 @@ returns c =
     let b = square-at l in
     let e = entries-at b in
     let k = kept-at e in (
-      gather-from _ _ _ _ _ _ _ _ _ _ _ _ _ _ _ _ _ _ _ (counted k) (listed k) (b .block2 .ensures .0) (b .block2 .ensures .1) (e .block .ensures .1) (l .linear .ensures)
-          (g .gradient .ensures) (r .residuals-at .ensures) (taken-over _ _ (length-select _ _ _) (s .select .ensures)) (c .step-noise .ensures),
+      gather-from _ _ _ _ _ _ _ _ _ _ _ _ _ _ _ _ _ _ _ (counted k) (listed k) (b .block2 .ensures .0) (b .block2 .ensures .1) (e .block .ensures .1)
+          (l .linear .ensures) (g .gradient .ensures) (r .residuals-at .ensures)
+          (taken-over _ _ (length-select _ _ _) (s .select .ensures)) (c .step-noise .ensures),
       counted k,
     )
 
@@ -189,8 +197,8 @@ pub gather-spec : {M : Type 1} → statement M
 gather-spec =
     tie.close
     (tie.spec
-    (λ c. let s = c .before .before .before .before .before .before .before .before in let p = s .before .before .before .before .before .before .before .before .pre in p .0 .within)  -- sub-first
-    (λ c. let s = c .before .before .before .before .before .before .before .before in let p = s .before .before .before .before .before .before .before .before .pre in p .0 .slacks)  -- sub-first-2
+    (λ c. known c .pre .0 .within)  -- sub-first
+    (λ c. known c .pre .0 .slacks)  -- sub-first-2
     kept-columns-requires
     (λ c. kept-fits (c .before .before))  -- slice-reshare-prefix-block
     slice-aggregate-block
@@ -209,14 +217,16 @@ gather-spec =
     (λ c. kept-fits (kept-of (c .before .before .before)))  -- slice-reshare-prefix-select-2
     slice-aggregate-select-2
     select-requires
-    (λ c. rows-fit (square-at (linear-at (gradient-at (residuals-at (c .before .before))))))  -- slice-reshare-prefix-step-noise
+    (λ c. rows-fit (square-of (residuals-at (c .before .before))))  -- slice-reshare-prefix-step-noise
     slice-aggregate-step-noise
     (λ c. c-fits (linear-at (gradient-at (residuals-at (c .before .before .before)))))  -- slice-reshare-prefix-step-noise-2
     slice-aggregate-step-noise-2
     step-noise-requires
-    (λ c. let b = square-at (linear-at (gradient-at (residuals-at (c .before .before .before .before .before)))) in b .block2 .kept .1 .1 .1 .1 .1 .0 ∙ entries-at b .block .kept .1 .1 .1 .1 .1 .0)  -- room
-    (λ c. square-at (linear-at (gradient-at (residuals-at (c .before .before .before .before .before)))) .block2 .kept .1 .1 .1 .1 .1 .1 .0)  -- q_free
-    (λ c. entries-at (square-at (linear-at (gradient-at (residuals-at (c .before .before .before .before .before))))) .block .kept .1 .1 .1 .1 .1 .1 .0)  -- e_free
+    (λ c.
+    let b = square-of (residuals-at (c .before .before .before .before .before)) in
+    b .block2 .kept .1 .1 .1 .1 .1 .0 ∙ entries-at b .block .kept .1 .1 .1 .1 .1 .0)  -- room
+    (λ c. square-of (residuals-at (c .before .before .before .before .before)) .block2 .kept .1 .1 .1 .1 .1 .1 .0)  -- q_free
+    (λ c. entries-at (square-of (residuals-at (c .before .before .before .before .before))) .block .kept .1 .1 .1 .1 .1 .1 .0)  -- e_free
     (λ c. linear-at (gradient-at (residuals-at (c .before .before .before .before .before))) .linear .kept .1 .1 .1 .1 .0)  -- c_free
     (λ c. gradient-at (residuals-at (c .before .before .before .before .before)) .gradient .kept .1 .1 .1 .1 .1 .0)  -- gradient_free
     (λ c. residuals-at (c .before .before .before .before .before) .residuals-at .kept .1 .1 .1 .1 .1 .0)  -- residuals

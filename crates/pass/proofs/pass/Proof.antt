@@ -34,8 +34,10 @@ slice-aggregate-with-indices c = sym (length-take-le _ _ (fits (c .before .befor
 
 with-indices-requires : tie.Need-with-indices-requires
 with-indices-requires c κs =
-    let p = start (c .before .before .before .before .before .before .before .before .before .before .before .before .before .before .before .before .before) .pre in
-    let e = c .before .before .before .before .before .before .before .before .before .before .before .before .before .before .before .before .free-indices .ensures in
+    let l = c .before .before .before .before .before .before .before .before .before .before .before .before .before .before in
+    let i = l .before .before in
+    let p = start (i .before) .pre in
+    let e = i .free-indices .ensures in
     (p .0, p .1, p .2, p .3, taken-over _ _ (sym (e .0)) (e .1), p .4, p .5, p .6)
 
 pub pass-spec : {M : Type 1} → statement M

@@ -1,5 +1,7 @@
-use Rattle.folds.specs.Kit.{_≡_, _≤_, _*_, refl, sym, _∙_, arith, length, needs}
+use Rattle.folds.specs.Kit.{_≡_, ℕ, _≤_, _*_, refl, sym, _∙_, arith, length, needs}
 use native.Mathlib.Nat.{le-refl, le-trans}
+use mathlib.Core.List.{List}
+use lib.Ieee.{Float}
 use lib.Seq.{length-take-le}
 use Rattle.folds.specs.Cell.{area}
 use Rattle.sizes.specs.Sizes as Sizes
@@ -9,7 +11,7 @@ use Rattle.free_list.specs.Laws.{free-few, taken-entries, ends-taken}
 use Rattle.free_problem.specs.Laws.{parts, kept-below}
 use Rattle.free_solve.specs.Workspace.{workspace-for}
 use Rattle.free_pass.specs.Laws.{still, within}
-use Rattle.pass.specs.Laws.{free-from}
+use Rattle.pass.specs.Laws.{listed-within, listed-below, free-from}
 use Rattle.pass.proofs.with_free.Statement.{statement}
 use Rattle.pass.proofs.with_free.Tie as tie
 
@@ -36,6 +38,37 @@ called c =
     let s = c .before .before .before .before .before .before .before .before .before .before .before .before in
     s .before .before .before .before .before .before .before .before .before .before .before .before
 
+-- ---- the lists that the calls leave
+abbrev lower-left : tie.After-ends-and-slopes → List Float
+lower-left c = c .ends-and-slopes .last .1 .1 .1 .1 .0
+
+abbrev upper-left : tie.After-ends-and-slopes → List Float
+upper-left c = c .ends-and-slopes .last .1 .1 .1 .1 .1 .0
+
+abbrev slope-left : tie.After-ends-and-slopes → List Float
+slope-left c = c .ends-and-slopes .last .1 .1 .1 .1 .1 .1 .0
+
+abbrev q-left : tie.After-gather → List Float
+q-left c = c .gather .last .1 .1 .1 .1 .1 .1 .1 .1 .1 .1 .1 .1 .0
+
+abbrev e-left : tie.After-gather → List Float
+e-left c = c .gather .last .1 .1 .1 .1 .1 .1 .1 .1 .1 .1 .1 .1 .1 .0
+
+abbrev c-left : tie.After-gather → List Float
+c-left c = c .gather .last .1 .1 .1 .1 .1 .1 .1 .1 .1 .1 .1 .1 .1 .1 .0
+
+abbrev gradient-left : tie.After-gather → List Float
+gradient-left c = c .gather .last .1 .1 .1 .1 .1 .1 .1 .1 .1 .1 .1 .1 .1 .1 .1 .0
+
+abbrev residuals-left : tie.After-gather → List Float
+residuals-left c = c .gather .last .1 .1 .1 .1 .1 .1 .1 .1 .1 .1 .1 .1 .1 .1 .1 .1 .0
+
+abbrev kept-left : tie.After-gather → List ℕ
+kept-left c = c .gather .last .1 .1 .1 .1 .1 .1 .1 .1 .1 .1 .1 .1 .1 .1 .1 .1 .1 .0
+
+abbrev residual-left : tie.After-gather → List Float
+residual-left c = c .gather .last .1 .1 .1 .1 .1 .1 .1 .1 .1 .1 .1 .1 .1 .1 .1 .1 .1 .1 .0
+
 -- ---- the counts
 solved-few : (c : tie.Start) → length (c .args .solved .now) ≤ c .args .originals
 solved-few c = listed-few _ _ (c .pre .5)
@@ -44,7 +77,7 @@ few : (c : tie.Start) → length (c .args .solved .now) ≤ Sizes.originals
 few c = le-trans (solved-few c) (c .pre .0 .few)
 
 indices-few : (c : tie.Start) → length (c .args .indices .now) ≤ 48
-indices-few c = rw (c .pre .4 .free) (le-trans (free-few _ _) (c .pre .0 .variables))
+indices-few c = listed-within (c .pre .4 .free) (le-trans (free-few _ _) (c .pre .0 .variables))
 
 columns-few : (c : tie.After-gather) → c .gather .result .columns ≤ start (ends-at c .before) .args .m
 columns-few c = within (c .gather .ensures .1) (kept-few _ _ _ _ _ _ _)
@@ -53,55 +86,57 @@ columns-few c = within (c .gather .ensures .1) (kept-few _ _ _ _ _ _ _)
 x-fits : (c : tie.Start) → c .args .n ≤ length (c .args .iterate .board .x)
 x-fits c = let e : length (c .args .iterate .board .x) ≡ 48 = (let g = c .good .0 .1 .1 .0 .1 .1 .0 in search needs) in still e (c .pre .0 .variables)
 
-lower-fits : (c : tie.After-ends-and-slopes) → length (start (c .before) .args .indices .now) ≤ length (c .ends-and-slopes .last .1 .1 .1 .1 .0)
+lower-fits : (c : tie.After-ends-and-slopes) → length (start (c .before) .args .indices .now) ≤ length (lower-left c)
 lower-fits c =
-    let e : length (c .ends-and-slopes .last .1 .1 .1 .1 .0) ≡ 48 = c .ends-and-slopes .kept .1 .1 .1 .1 .0 in still e (indices-few (start (c .before)))
+    let e : length (lower-left c) ≡ 48 = c .ends-and-slopes .kept .1 .1 .1 .1 .0 in still e (indices-few (start (c .before)))
 
-upper-fits : (c : tie.After-ends-and-slopes) → length (start (c .before) .args .indices .now) ≤ length (c .ends-and-slopes .last .1 .1 .1 .1 .1 .0)
+upper-fits : (c : tie.After-ends-and-slopes) → length (start (c .before) .args .indices .now) ≤ length (upper-left c)
 upper-fits c =
-    let e : length (c .ends-and-slopes .last .1 .1 .1 .1 .1 .0) ≡ 48 = c .ends-and-slopes .kept .1 .1 .1 .1 .1 .0 in still e (indices-few (start (c .before)))
+    let e : length (upper-left c) ≡ 48 = c .ends-and-slopes .kept .1 .1 .1 .1 .1 .0 in still e (indices-few (start (c .before)))
 
-slope-holds : (c : tie.After-ends-and-slopes) → length (start (c .before) .args .indices .now) ≤ length (c .ends-and-slopes .last .1 .1 .1 .1 .1 .1 .0)
+slope-holds : (c : tie.After-ends-and-slopes) → length (start (c .before) .args .indices .now) ≤ length (slope-left c)
 slope-holds c =
-    let e : length (c .ends-and-slopes .last .1 .1 .1 .1 .1 .1 .0) ≡ 48 = c .ends-and-slopes .kept .1 .1 .1 .1 .1 .1 .0 in still e (indices-few (start (c .before)))
+    let e : length (slope-left c) ≡ 48 = c .ends-and-slopes .kept .1 .1 .1 .1 .1 .1 .0 in still e (indices-few (start (c .before)))
 
 solved-fit : (c : tie.Start) → length (c .args .solved .now) ≤ length (c .args .indices .now)
 solved-fit c = let h = c .pre .4 .counted in omega arith
 
-slope-fits : (c : tie.After-ends-and-slopes) → length (start (c .before) .args .solved .now) ≤ length (c .ends-and-slopes .last .1 .1 .1 .1 .1 .1 .0)
+slope-fits : (c : tie.After-ends-and-slopes) → length (start (c .before) .args .solved .now) ≤ length (slope-left c)
 slope-fits c = le-trans (solved-fit (start (c .before))) (slope-holds c)
 
-kept-fits : (c : tie.After-gather) → c .gather .result .columns ≤ length (c .gather .last .1 .1 .1 .1 .1 .1 .1 .1 .1 .1 .1 .1 .1 .1 .1 .1 .1 .0)
+kept-fits : (c : tie.After-gather) → c .gather .result .columns ≤ length (kept-left c)
 kept-fits c =
-    let e : length (c .gather .last .1 .1 .1 .1 .1 .1 .1 .1 .1 .1 .1 .1 .1 .1 .1 .1 .1 .0) ≡ 24 = c .gather .kept .1 .1 .1 .1 .1 .1 .1 .1 .1 .1 .1 .1 .1 .1 .1 .1 .1 .0 in
+    let e : length (kept-left c) ≡ 24 = c .gather .kept .1 .1 .1 .1 .1 .1 .1 .1 .1 .1 .1 .1 .1 .1 .1 .1 .1 .0 in
     still e (le-trans (columns-few c) (start (ends-at c .before) .pre .0 .columns))
 
-residual-fits : (c : tie.After-gather) → c .gather .result .columns ≤ length (c .gather .last .1 .1 .1 .1 .1 .1 .1 .1 .1 .1 .1 .1 .1 .1 .1 .1 .1 .1 .0)
+residual-fits : (c : tie.After-gather) → c .gather .result .columns ≤ length (residual-left c)
 residual-fits c =
-    let e : length (c .gather .last .1 .1 .1 .1 .1 .1 .1 .1 .1 .1 .1 .1 .1 .1 .1 .1 .1 .1 .0) ≡ 24 = c .gather .kept .1 .1 .1 .1 .1 .1 .1 .1 .1 .1 .1 .1 .1 .1 .1 .1 .1 .1 .0 in
+    let e : length (residual-left c) ≡ 24 = c .gather .kept .1 .1 .1 .1 .1 .1 .1 .1 .1 .1 .1 .1 .1 .1 .1 .1 .1 .1 .0 in
     still e (le-trans (columns-few c) (start (ends-at c .before) .pre .0 .columns))
 
-c-fits : (c : tie.After-gather) → length (start (ends-at c .before) .args .solved .now) ≤ length (c .gather .last .1 .1 .1 .1 .1 .1 .1 .1 .1 .1 .1 .1 .1 .1 .0)
+c-fits : (c : tie.After-gather) → length (start (ends-at c .before) .args .solved .now) ≤ length (c-left c)
 c-fits c =
-    let e : length (c .gather .last .1 .1 .1 .1 .1 .1 .1 .1 .1 .1 .1 .1 .1 .1 .0) ≡ 32 = c .gather .kept .1 .1 .1 .1 .1 .1 .1 .1 .1 .1 .1 .1 .1 .1 .0 in still e (few (start (ends-at c .before)))
+    let e : length (c-left c) ≡ 32 = c .gather .kept .1 .1 .1 .1 .1 .1 .1 .1 .1 .1 .1 .1 .1 .1 .0 in still e (few (start (ends-at c .before)))
 
-gradient-fits : (c : tie.After-gather) → length (start (ends-at c .before) .args .solved .now) ≤ length (c .gather .last .1 .1 .1 .1 .1 .1 .1 .1 .1 .1 .1 .1 .1 .1 .1 .0)
+gradient-fits : (c : tie.After-gather) → length (start (ends-at c .before) .args .solved .now) ≤ length (gradient-left c)
 gradient-fits c =
-    let e : length (c .gather .last .1 .1 .1 .1 .1 .1 .1 .1 .1 .1 .1 .1 .1 .1 .1 .0) ≡ 32 = c .gather .kept .1 .1 .1 .1 .1 .1 .1 .1 .1 .1 .1 .1 .1 .1 .1 .0 in still e (few (start (ends-at c .before)))
+    let e : length (gradient-left c) ≡ 32 = c .gather .kept .1 .1 .1 .1 .1 .1 .1 .1 .1 .1 .1 .1 .1 .1 .1 .0 in still e (few (start (ends-at c .before)))
 
-residuals-fit : (c : tie.After-gather) → start (ends-at c .before) .args .m ≤ length (c .gather .last .1 .1 .1 .1 .1 .1 .1 .1 .1 .1 .1 .1 .1 .1 .1 .1 .0)
+residuals-fit : (c : tie.After-gather) → start (ends-at c .before) .args .m ≤ length (residuals-left c)
 residuals-fit c =
-    let e : length (c .gather .last .1 .1 .1 .1 .1 .1 .1 .1 .1 .1 .1 .1 .1 .1 .1 .1 .0) ≡ 24 = c .gather .kept .1 .1 .1 .1 .1 .1 .1 .1 .1 .1 .1 .1 .1 .1 .1 .1 .0 in
+    let e : length (residuals-left c) ≡ 24 = c .gather .kept .1 .1 .1 .1 .1 .1 .1 .1 .1 .1 .1 .1 .1 .1 .1 .1 .0 in
     still e (start (ends-at c .before) .pre .0 .columns)
 
-square-fits : (c : tie.After-gather) → let k = length (start (ends-at c .before) .args .solved .now) in k * k ≤ length (c .gather .last .1 .1 .1 .1 .1 .1 .1 .1 .1 .1 .1 .1 .0)
+square-fits : (c : tie.After-gather) → let k = length (start (ends-at c .before) .args .solved .now) in k * k ≤ length (q-left c)
 square-fits c =
-    let s = start (ends-at c .before) in still (c .gather .kept .1 .1 .1 .1 .1 .1 .1 .1 .1 .1 .1 .1 .0) (le-trans (area (solved-few s) (solved-few s)) (s .pre .6 .q-free))
+    let s = start (ends-at c .before) in
+    still (c .gather .kept .1 .1 .1 .1 .1 .1 .1 .1 .1 .1 .1 .1 .0) (le-trans (area (solved-few s) (solved-few s)) (s .pre .6 .q-free))
 
 entries-fit : (c : tie.After-gather) →
-    length (start (ends-at c .before) .args .solved .now) * c .gather .result .columns ≤ length (c .gather .last .1 .1 .1 .1 .1 .1 .1 .1 .1 .1 .1 .1 .1 .0)
+    length (start (ends-at c .before) .args .solved .now) * c .gather .result .columns ≤ length (e-left c)
 entries-fit c =
-    let s = start (ends-at c .before) in still (c .gather .kept .1 .1 .1 .1 .1 .1 .1 .1 .1 .1 .1 .1 .1 .0) (le-trans (area (solved-few s) (columns-few c)) (s .pre .6 .e-free))
+    let s = start (ends-at c .before) in
+    still (c .gather .kept .1 .1 .1 .1 .1 .1 .1 .1 .1 .1 .1 .1 .1 .0) (le-trans (area (solved-few s) (columns-few c)) (s .pre .6 .e-free))
 
 -- ---- the calls
 ends-and-slopes-requires : tie.Need-ends-and-slopes-requires
@@ -171,10 +206,14 @@ slice-aggregate-with-problem-7 : tie.Need-slice-aggregate-with-problem-7
 slice-aggregate-with-problem-7 c = sym (length-take-le _ _ (residual-fits (given (c .before .before .before .before .before .before .before))))
 
 slice-aggregate-with-problem-8 : tie.Need-slice-aggregate-with-problem-8
-slice-aggregate-with-problem-8 c = sym (length-take-le _ _ (lower-fits (ends-at (given (c .before .before .before .before .before .before .before .before)))))
+slice-aggregate-with-problem-8 c =
+    let g = given (c .before .before .before .before .before .before .before .before) in
+    sym (length-take-le _ _ (lower-fits (ends-at g)))
 
 slice-aggregate-with-problem-9 : tie.Need-slice-aggregate-with-problem-9
-slice-aggregate-with-problem-9 c = sym (length-take-le _ _ (upper-fits (ends-at (given (c .before .before .before .before .before .before .before .before .before)))))
+slice-aggregate-with-problem-9 c =
+    let g = given (c .before .before .before .before .before .before .before .before .before) in
+    sym (length-take-le _ _ (upper-fits (ends-at g)))
 
 with-problem-requires : tie.Need-with-problem-requires
 with-problem-requires c κs =
@@ -202,7 +241,7 @@ with-problem-requires c κs =
       record {
         few = few s;
         kept-few = within columns (columns-few g);
-        kept-below = rw (parts _ _ (g .gather .result) _ _ _ _ _ _ _ (g .gather .ensures .0) .kept-are) (kept-below _ _ _ _ _ _ _ _ _ _ _);
+        kept-below = listed-below (parts _ _ (g .gather .result) _ _ _ _ _ _ _ (g .gather .ensures .0) .kept-are) (kept-below _ _ _ _ _ _ _ _ _ _ _);
         c-holds = still (length-take-le _ _ (c-fits g)) (le-refl _);
         gradient-holds = still (length-take-le _ _ (gradient-fits g)) (le-refl _);
         residuals-hold = still (length-take-le _ _ (residuals-fit g)) (le-refl _);
@@ -276,7 +315,8 @@ with-free-spec =
     with-problem-requires
     (λ c.
     let w = called c in
-    w .with-problem .kept .1 .1 .1 .1 .1 .1 .1 .1 .1 .1 .1 .1 .1 .1 .1 .1 .1 .1 .1 .1 .1 .1 .1 .1 .1 .0 ∙ given (lent (w .before)) .gather .kept .1 .1 .1 .1 .1 .1 .1 .1 .1 .1 .1 .0)  -- room
+    w .with-problem .kept .1 .1 .1 .1 .1 .1 .1 .1 .1 .1 .1 .1 .1 .1 .1 .1 .1 .1 .1 .1 .1 .1 .1 .1 .1 .0
+    ∙ given (lent (w .before)) .gather .kept .1 .1 .1 .1 .1 .1 .1 .1 .1 .1 .1 .0)  -- room
     (λ c. given (lent (called c .before)) .gather .kept .1 .1 .1 .1 .1 .1 .1 .1 .1 .1 .1 .1 .0)  -- q_free
     (λ c. given (lent (called c .before)) .gather .kept .1 .1 .1 .1 .1 .1 .1 .1 .1 .1 .1 .1 .1 .0)  -- e_free
     (λ c. called c .with-problem .kept .1 .1 .1 .1 .1 .1 .1 .1 .1 .1 .1 .1 .1 .1 .1 .1 .1 .1 .1 .1 .1 .1 .1 .1 .1 .1 .0)  -- gram
