@@ -14,7 +14,8 @@ use Rattle.cap.specs.Capped.{Answer, Capped, optimal, unbounded, engine, solveT
 use Rattle.cap.specs.Laws.{optimal-sized, never-unbounded, engine-answer, optimal-written}
 use Rattle.format.specs.Structs.{blockOf, Sound}
 use Rattle.format.specs.Entries.{words-length, anchors-length, spans-length}
-use Rattle.block_qp.specs.Qp.{lowers, uppers, anchorValues, spanLowers, spanUppers, cap}
+use Rattle.block_qp.specs.Qp.{hessian, linear, keys, slopes, lowers, uppers, starts, cap}
+use Rattle.block_qp.specs.Qp.{anchorColumns, anchorValues, spanColumns, spanLowers, spanUppers}
 use Rattle.block_qp.specs.Laws.{length-hessian, length-linear, length-keys, length-slopes, length-lowers, length-uppers, length-starts}
 use Rattle.block_qp.specs.Laws.{length-anchorColumns, length-anchorValues, length-spanColumns, length-spanLowers, length-spanUppers}
 use Rattle.block_qp.specs.Exact.{lowers-numbers, uppers-numbers, spanLowers-numbers, spanUppers-numbers}
@@ -39,7 +40,9 @@ module _ (b : Block) where
   block-shaped : Ranged b → shaped (quadraticOf b) (length (b .words)) (length (b .anchors) + length (b .spans)) ≡ true
   unfolding quadraticOf
   block-shaped R =
-      shaped-yes
+      shaped-yes (length (b .words)) (length (b .anchors)) (length (b .spans)) (hessian b) (linear b) (anchorColumns b) (anchorValues b) (lowers b)
+      (uppers b) (spanColumns b) (spanLowers b) (spanUppers b) (keys b) (slopes b) (starts b) (length (b .words))
+      (length (b .anchors) + length (b .spans))
       (record {
         originals = R .words;
         equalities = R .anchors;

@@ -174,12 +174,12 @@ long-yes l =
     (both-yes (eq-eqb _ _ (l .x-long))
     (eq-eqb _ _ (l .multipliers-long)))))))))
 
-module _ {n m r : ℕ} {q c e b lower upper a rowLower rowUpper at slopes start : List Float} {x multipliers : ℕ} where
-  pub shaped-yes : Size n m r (length q) (length c) (length e) (length b) (length a) →
-      Long n m r (length lower) (length upper) (length rowLower) (length rowUpper) (length at) (length slopes) (length start) x multipliers →
-      shaped (quadratic n m r q c e b lower upper a rowLower rowUpper at slopes start) x multipliers ≡ true
-  unfolding shaped
-  shaped-yes s l = both-yes (sized-yes s) (long-yes l)
+pub shaped-yes : (n m r : ℕ) (q c e b lower upper a rowLower rowUpper at slopes start : List Float) (x multipliers : ℕ) →
+    Size n m r (length q) (length c) (length e) (length b) (length a) →
+    Long n m r (length lower) (length upper) (length rowLower) (length rowUpper) (length at) (length slopes) (length start) x multipliers →
+    shaped (quadratic n m r q c e b lower upper a rowLower rowUpper at slopes start) x multipliers ≡ true
+unfolding shaped
+shaped-yes n m r q c e b lower upper a rowLower rowUpper at slopes start x multipliers s l = both-yes (sized-yes s) (long-yes l)
 
 -- bounds of which none is a NaN
 pub blank-no : (n r : ℕ) (lower upper rowLower rowUpper : List Float) → anyNan n lower ≡ false → anyNan n upper ≡ false →
