@@ -14,35 +14,24 @@ use Rattle.folds.specs.Run.{Pass}
 use Rattle.folds.specs.Chosen.{chosen}
 use Rattle.folds.specs.Position.{partitionPoint, split-within}
 use Rattle.sizes.specs.Sizes as Sizes
-use Rattle.vector.specs.Vector.{Below}
 use Rattle.factor.specs.Factor.{Rising}
 use Rattle.factor.specs.Laws.{rising-chosen}
 use Rattle.factoring.specs.declared.Factoring.{Factoring}
 use Rattle.segments.specs.Segments.{stateAt}
 use Rattle.segments.specs.declared.Segments.{Segments}
 use Rattle.segments.specs.declared.Spot.{Spot}
-use Rattle.free_list.specs.FreeList.{isFree, freeIndices, slopes}
+use Rattle.free_list.specs.FreeList.{isFree, freeIndices}
 use Rattle.free_list.specs.Laws.{free-originals}
 use Rattle.slack_rows.specs.Laws as SlackRows
 use Rattle.iterate.specs.Problem.{problem, firstSlackColumn}
 use Rattle.iterate.specs.Iterate.{Result}
 use Rattle.iterate.specs.declared.Iterate.{Iterate}
 use Rattle.advance.specs.Advance.{withoutFree}
-use Rattle.free_problem.specs.FreeProblem.{gather}
-use Rattle.free_problem.specs.declared.Free.{Free}
-use Rattle.free_problem.specs.Laws.{Parts}
 use Rattle.free_step.specs.FreeStep.{Split}
-use Rattle.free_pass.specs.FreePass.{State, state, beside, onProblem}
+use Rattle.free_pass.specs.FreePass.{State, state, beside}
 use Rattle.free_pass.specs.Laws.{within}
-use Rattle.pass.specs.Pass.{withFree, pass}
-
--- a list that is known
-module _ {l known : List ℕ} {b : ℕ} (e : l ≡ known) where
-  pub listed-within : length known ≤ b → length l ≤ b
-  listed-within h = rw e h
-
-  pub listed-below : Below (length known) known b → Below (length l) l b
-  listed-below h = rw e h
+use Rattle.gathering.specs.Gathering.{withFree}
+use Rattle.pass.specs.Pass.{pass}
 
 -- ---- the split
 free-chosen : (n : ℕ) (state : List Spot) → freeIndices n state ≡ chosen n (λ i. isFree (stateAt state i))
@@ -91,19 +80,6 @@ module _ {indices solved : List ℕ} (originals n : ℕ) (state : List Spot) (wi
 -- ---- what the calls give
 module _ (originals n m : ℕ) (q c e b : List Float) (segments : List Segments) (fixed : List Bool) (qAmax linear : Float)
     (solved slacks : List ℕ) (i : Iterate) (f : Factoring) (l : List Float) where
-  pub free-from : {x : Pass State Result} {r : Free} {qFree eFree cFree gradient residuals residual slope : List Float} {kept : List ℕ} →
-      Parts (length solved) m r qFree eFree cFree gradient residuals kept residual
-      (gather (problem originals n m q c e b) (take n (i .board .x)) solved slacks slope) →
-      slope ≡ slopes (length solved) n segments (i .board .state) →
-      x ≡ onProblem (problem originals n m q c e b) segments fixed qAmax linear solved slacks (take (r .columns) kept) (take (length solved) cFree)
-      (take (length solved) gradient) (take m residuals) (take (length solved * length solved) qFree) (take (length solved * r .columns) eFree)
-      (take (r .columns) residual) (r .noise) i f l →
-      x ≡ withFree (problem originals n m q c e b) segments fixed qAmax linear solved slacks i f l
-  unfolding withFree
-  free-from p s h =
-      h
-      ∙ rw (p .kept-are, p .linear-is, p .gradient-is, p .residuals-are, p .square-is, p .entries-are, p .residual-is, p .noise-is, s)
-
   module _ {indices : List ℕ} (free : indices ≡ freeIndices n (i .board .state)) (lead : solved ≡ take (partitionPoint originals indices) indices) where
     pub pass-without : {x : Pass Iterate Result} → length solved ≡ 0 → x ≡ withoutFree originals n m segments fixed i →
         beside f l x ≡ pass (problem originals n m q c e b) segments fixed qAmax linear (state i f l)

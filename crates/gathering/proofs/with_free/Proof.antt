@@ -11,9 +11,9 @@ use Rattle.free_list.specs.Laws.{free-few, taken-entries, ends-taken}
 use Rattle.free_problem.specs.Laws.{parts, kept-below}
 use Rattle.free_solve.specs.Workspace.{workspace-for}
 use Rattle.free_pass.specs.Laws.{still, within}
-use Rattle.pass.specs.Laws.{listed-within, listed-below, free-from}
-use Rattle.pass.proofs.with_free.Statement.{statement}
-use Rattle.pass.proofs.with_free.Tie as tie
+use Rattle.gathering.specs.Laws.{listed-within, listed-below, free-from}
+use Rattle.gathering.proofs.with_free.Statement.{statement}
+use Rattle.gathering.proofs.with_free.Tie as tie
 
 -- ---- the calls, and the function's start
 abbrev start : tie.After-slope → tie.Start
