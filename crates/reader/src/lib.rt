@@ -64,55 +64,6 @@ fn empty() -> Block
     }
 }
 
-// The block with the field of tag t, body b and n pairs more.
-fn with_body(t: u64, b: &[u8], n: usize, k: Block) -> Block
-    requires { ⌜ n ≤ maxPairs ⌝ }
-    requires { ⌜ Sound k ⌝ }
-    requires { ⌜ Read.hasRoom t (countsOf k) ≡ true ⌝ }
-    ensures { λ r. ⌜ (blockOf r ≡ Read.withBody t (now (b .entry)) n (blockOf k)) × Sound r ⌝ }
-{
-    let mut r = k;
-    if t == format::WORD {
-        let i = r.words;
-        r.word[i] = bodies::word_from(b);
-        r.words = i + 1;
-        return r;
-    }
-    if t == format::TEMPO {
-        let i = r.tempos;
-        r.tempo[i] = bodies::tempo_from(b, n);
-        r.tempos = i + 1;
-        return r;
-    }
-    if t == format::ANCHOR {
-        let i = r.anchors;
-        r.anchor[i] = bodies::anchor_from(b, n);
-        r.anchors = i + 1;
-        return r;
-    }
-    if t == format::SPAN {
-        let i = r.spans;
-        r.span[i] = bodies::span_from(b, n);
-        r.spans = i + 1;
-        return r;
-    }
-    r.cap = numbers::u32_at(b, 0);
-    r
-}
-
-// The block with the field that r begins with.
-fn with_field(r: &[u8], k: Block) -> Block
-    requires { ⌜ Sound k ⌝ }
-    requires { ⌜ Whole (now r) (countsOf k) ⌝ }
-    ensures { λ q. ⌜ (blockOf q ≡ Read.withField (now (r .entry)) (blockOf k)) × Sound q ⌝ }
-{
-    let t = numbers::byte_at(r, 0);
-    let n = fields::count_of(r);
-    let e = 3 + (numbers::u16_at(r, 1) as usize);
-    let b = &r[3..e];
-    with_body(t, b, n, k)
-}
-
 fn end_verdict(last: u64, words: usize) -> Verdict
     ensures { λ v. ⌜ v ≡ Read.endVerdict last words ⌝ }
 {
@@ -158,9 +109,30 @@ pub fn read(s: &[u8]) -> Answer
         if numbers::accepted(v) {} else {
             return refused(v);
         }
-        block = with_field(r, block);
         last = numbers::byte_at(r, 0);
-        at = at + 3 + (numbers::u16_at(r, 1) as usize);
+        let n = fields::count_of(r);
+        let e = 3 + (numbers::u16_at(r, 1) as usize);
+        let b = &r[3..e];
+        at = at + e;
+        if last == format::WORD {
+            let i = block.words;
+            block.word[i] = bodies::word_from(b);
+            block.words = i + 1;
+        } else if last == format::TEMPO {
+            let i = block.tempos;
+            block.tempo[i] = bodies::tempo_from(b, n);
+            block.tempos = i + 1;
+        } else if last == format::ANCHOR {
+            let i = block.anchors;
+            block.anchor[i] = bodies::anchor_from(b, n);
+            block.anchors = i + 1;
+        } else if last == format::SPAN {
+            let i = block.spans;
+            block.span[i] = bodies::span_from(b, n);
+            block.spans = i + 1;
+        } else {
+            block.cap = numbers::u32_at(b, 0);
+        }
     }
     let words = block.words;
     let v = end_verdict(last, words);
