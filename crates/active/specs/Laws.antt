@@ -11,7 +11,6 @@ use lib.Seq.{length-take-le}
 use Rattle.folds.specs.Fold.{false-true}
 use Rattle.folds.specs.Run as Run
 use Rattle.folds.specs.Run.{Pass, more, done, run}
-use Rattle.folds.specs.Tab.{length-tab}
 use Rattle.arith.specs.Scalar.{max}
 use Rattle.arith.specs.Float.{f0}
 use Rattle.vector.specs.Vector.{amax, filled}
@@ -130,10 +129,6 @@ unfolding started
 started-kept n segments start cut = record { placed = all-placed n segments _ _ _ cut refl }
 
 -- ---- what the calls leave, put together
-pub length-allFixed : (n : ℕ) (segments : List Segments) → length (allFixed n segments) ≡ n
-unfolding allFixed
-length-allFixed n segments = length-tab n _
-
 pub units-from : {r : Answer} {fixed : List Bool} {qAmax linear cAmax slopes : Float} {i : Iterate} {l : List Float} (originals n m : ℕ) (q c e b : List Float)
     (segments : List Segments) (start : List Float) → fixed ≡ allFixed n segments → qAmax ≡ amax (n * n) q → cAmax ≡ amax n c →
     slopes ≡ slopeAmax n segments → linear ≡ max cAmax slopes → i ≡ started n segments start → l ≡ filled (originals * originals) f0 →

@@ -26,6 +26,10 @@ use Rattle.free_list.specs.FreeList.{isFree, freeIndices, segmentIn, fre
 
 -- ---- the free variables: below n, and rising
 module _ (n : ℕ) (state : List Spot) where
+  pub free-chosen : freeIndices n state ≡ chosen n (λ i. isFree (stateAt state i))
+  unfolding freeIndices
+  free-chosen = refl
+
   pub free-few : length (freeIndices n state) ≤ n
   unfolding freeIndices
   free-few = length-chosen n (λ i. isFree (stateAt state i))

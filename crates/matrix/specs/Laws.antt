@@ -18,7 +18,7 @@ use Rattle.arith.specs.Float.{fdiv, f0, f1, at}
 use Rattle.arith.specs.Neutral.{sum-same}
 use Rattle.vector.specs.Vector.{amax}
 use Rattle.vector.specs.Laws.{Same}
-use Rattle.matrix.specs.Matrix.{cell, put, column, diagonal, rowDot, mulVec, columnDot, trMulVec, cellDot, mul, columnsDot, trMul, transpose}
+use Rattle.matrix.specs.Matrix.{cell, put, column, rowDot, mulVec, columnDot, trMulVec, cellDot, mul, columnsDot, trMul, transpose}
 use Rattle.matrix.specs.Matrix.{unit, identity, index, selectRows, selectColumns, rowsDivided, columnsDivided, columnsAmax, putColumn}
 
 -- ---- lengths
@@ -26,10 +26,6 @@ module _ (n : ℕ) where
   pub length-column : (a : List Float) (j : ℕ) → length (column n a j) ≡ n
   unfolding column
   length-column a j = length-tab n _
-
-  pub length-diagonal : (a : List Float) → length (diagonal n a) ≡ n
-  unfolding diagonal
-  length-diagonal a = length-tab n _
 
   pub length-identity : length (identity n) ≡ n * n
   unfolding identity
@@ -137,10 +133,6 @@ module _ (n : ℕ) where
   pub column-at : (a : List Float) (j i : ℕ) → i < n → at (column n a j) i ≡ cell a n i j
   unfolding column
   column-at a j i h = getD-tab nan n i _ h
-
-  pub diagonal-at : (a : List Float) (i : ℕ) → i < n → at (diagonal n a) i ≡ cell a n i i
-  unfolding diagonal
-  diagonal-at a i h = getD-tab nan n i _ h
 
 module _ (n m : ℕ) where
   pub mulVec-at : (a x : List Float) (i : ℕ) → i < n → at (mulVec n m a x) i ≡ rowDot n m a i x

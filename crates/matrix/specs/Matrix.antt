@@ -18,9 +18,6 @@ put a n i j v = set a (i + j * n) v
 unfoldable pub column : (n : ℕ) (a : List Float) (j : ℕ) → List Float
 column n a j = tab n (λ i. cell a n i j)
 
-unfoldable pub diagonal : (n : ℕ) (a : List Float) → List Float
-diagonal n a = tab n (λ i. cell a n i i)
-
 unfoldable pub trace : (n : ℕ) (a : List Float) → Float
 trace n a = sum n (λ i. cell a n i i)
 

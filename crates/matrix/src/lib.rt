@@ -32,15 +32,6 @@ pub fn column(a: &[f64], n: usize, m: usize, j: usize) -> &[f64]
     &a[b..e]
 }
 
-pub fn diagonal(a: &[f64], n: usize, d: &mut [f64])
-    requires { ⌜ (n * n ≤ length (now a)) × (n ≤ length (now d)) ⌝ }
-    ensures { λ _. ⌜ now (d .exit) ≡ over (Matrix.diagonal n (now (a .entry))) (now (d .entry)) ⌝ }
-{
-    for i in 0..n {
-        d[i] = get(a, n, n, i, i);
-    }
-}
-
 pub fn trace(a: &[f64], n: usize) -> f64
     requires { ⌜ n * n ≤ length (now a) ⌝ }
     ensures { λ r. ⌜ r ≡ Matrix.trace n (now (a .entry)) ⌝ }

@@ -11,17 +11,15 @@ use borrow.Author.Tests.{ne-eqb}
 use lib.Ieee.{Float}
 use Rattle.folds.specs.Fold.{pick}
 use Rattle.folds.specs.Run.{Pass}
-use Rattle.folds.specs.Chosen.{chosen}
 use Rattle.folds.specs.Position.{partitionPoint, split-within}
 use Rattle.sizes.specs.Sizes as Sizes
 use Rattle.factor.specs.Factor.{Rising}
 use Rattle.factor.specs.Laws.{rising-chosen}
 use Rattle.factoring.specs.declared.Factoring.{Factoring}
-use Rattle.segments.specs.Segments.{stateAt}
 use Rattle.segments.specs.declared.Segments.{Segments}
 use Rattle.segments.specs.declared.Spot.{Spot}
-use Rattle.free_list.specs.FreeList.{isFree, freeIndices}
-use Rattle.free_list.specs.Laws.{free-originals}
+use Rattle.free_list.specs.FreeList.{freeIndices}
+use Rattle.free_list.specs.Laws.{free-chosen, free-originals}
 use Rattle.slack_rows.specs.Laws as SlackRows
 use Rattle.iterate.specs.Problem.{problem, firstSlackColumn}
 use Rattle.iterate.specs.Iterate.{Result}
@@ -34,10 +32,6 @@ use Rattle.gathering.specs.Gathering.{withFree}
 use Rattle.pass.specs.Pass.{pass}
 
 -- ---- the split
-free-chosen : (n : ℕ) (state : List Spot) → freeIndices n state ≡ chosen n (λ i. isFree (stateAt state i))
-unfolding freeIndices
-free-chosen n spots = refl
-
 lead-length : {solved : List ℕ} (originals : ℕ) (indices : List ℕ) → solved ≡ take (partitionPoint originals indices) indices →
     length solved ≡ partitionPoint originals indices
 lead-length originals indices lead = rw lead (length-take-le _ indices (split-within originals indices))

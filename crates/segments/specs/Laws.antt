@@ -19,7 +19,7 @@ use Rattle.segments.specs.declared.State.{State}
 use Rattle.segments.specs.declared.State.the-variants.{At, Free}
 use Rattle.segments.specs.declared.Spot.{Spot}
 use Rattle.segments.specs.Segments.{last, Cut, IsFree, Placed, segmentsAt, stateAt, AllCut, AllPlaced}
-use Rattle.segments.specs.Start.{fixed, below, meets, inside, place, allPlaced, first}
+use Rattle.segments.specs.Start.{fixed, below, meets, inside, place, allFixed, allPlaced, first}
 use Rattle.segments.specs.Freeing.{freed, freeOne, freeAll}
 
 -- what is not at or below isn't below
@@ -73,6 +73,10 @@ module _ (n : ℕ) (segments : List Segments) (o r : List Spot) where
   pub all-placed : (x : List Float) → AllCut n segments → r ≡ over (allPlaced n segments x) o → AllPlaced n segments r
   unfolding allPlaced
   all-placed x cut q = tab-placed (λ i. place (segmentsAt segments i) (at x i)) (λ i l. place-placed (segmentsAt segments i) (cut i l) (at x i)) q
+
+pub length-allFixed : (n : ℕ) (segments : List Segments) → length (allFixed n segments) ≡ n
+unfolding allFixed
+length-allFixed n segments = length-tab n _
 
 -- ---- a held variable is not free, and a free one is in one segment, which lies between two points
 pub held-not-free : (t : State) (p : ℕ) → t ≡ At p → IsFree t → ⊥

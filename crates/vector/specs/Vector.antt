@@ -41,9 +41,6 @@ scaledNorm n a =
     (pick (isInfinite (amax n a)) (amax n a)
     (fmul (amax n a) (sqrt (quotientSquares n a (amax n a))))))
 
-unfoldable pub total : (n : ℕ) (a : List Float) → Float
-total n a = sum n (λ k. at a k)
-
 unfoldable pub totalAbs : (n : ℕ) (a : List Float) → Float
 totalAbs n a = sum n (λ k. abs (at a k))
 

@@ -102,17 +102,6 @@ pub fn scaled_norm(a: &[f64], n: usize) -> f64
     largest * root::sqrt(quotient_squares(a, n, largest))
 }
 
-pub fn total(a: &[f64], n: usize) -> f64
-    requires { ⌜ n ≤ length (now a) ⌝ }
-    ensures { λ r. ⌜ r ≡ Vector.total n (now (a .entry)) ⌝ }
-{
-    let mut s = 0.0;
-    for k in 0..n {
-        s = s + a[k];
-    }
-    s
-}
-
 pub fn total_abs(a: &[f64], n: usize) -> f64
     requires { ⌜ n ≤ length (now a) ⌝ }
     ensures { λ r. ⌜ r ≡ Vector.totalAbs n (now (a .entry)) ⌝ }

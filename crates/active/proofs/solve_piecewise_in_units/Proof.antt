@@ -4,7 +4,8 @@ use Rattle.folds.specs.Tab.{taken-over}
 use native.Mathlib.Nat.{le-refl}
 use lib.Seq.{length-take-le}
 use Rattle.vector.specs.Laws.{length-filled}
-use Rattle.active.specs.Laws.{started-kept, length-allFixed, units-from}
+use Rattle.segments.specs.Laws.{length-allFixed}
+use Rattle.active.specs.Laws.{started-kept, units-from}
 use Rattle.active.proofs.solve_piecewise_in_units.Statement.{statement}
 use Rattle.active.proofs.solve_piecewise_in_units.Tie as tie
 
