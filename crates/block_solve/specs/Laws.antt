@@ -19,8 +19,8 @@ use Rattle.block_qp.specs.Qp.{anchorColumns, anchorValues, spanColumns, spanLow
 use Rattle.block_qp.specs.Laws.{length-hessian, length-linear, length-keys, length-slopes, length-lowers, length-uppers, length-starts}
 use Rattle.block_qp.specs.Laws.{length-anchorColumns, length-anchorValues, length-spanColumns, length-spanLowers, length-spanUppers}
 use Rattle.block_qp.specs.Exact.{lowers-numbers, uppers-numbers, spanLowers-numbers, spanUppers-numbers}
-use Rattle.piecewise.specs.Piecewise.{Quadratic, quadratic, shaped, blank}
-use Rattle.piecewise.specs.Laws.{shaped-yes, blank-no}
+use Rattle.quadratic.specs.Quadratic.{Quadratic, quadratic, shaped, blank}
+use Rattle.quadratic.specs.Laws.{shaped-yes, blank-no}
 use Rattle.block_solve.specs.Solve.{quadraticOf, solveBlock, Matrices, Words, Solves}
 
 -- ---- an answer has a weight for each word, a multiplier for each anchor and span, and few passes

@@ -10,7 +10,7 @@ use Rattle.format.specs.declared.Block as Held
 use Rattle.format.specs.Structs.{blockOf}
 use Rattle.block_qp.specs.Qp.{hessian, linear, anchorColumns, anchorValues, spanColumns, spanLowers, spanUppers, lowers, uppers, keys, slopes, starts}
 use Rattle.block_qp.specs.Qp.{cap}
-use Rattle.piecewise.specs.Piecewise.{Quadratic, quadratic}
+use Rattle.quadratic.specs.Quadratic.{Quadratic, quadratic}
 use Rattle.cap.specs.Capped.{Answer, optimal, engine, solveTurnoverCapped, number}
 use Rattle.block_solve.specs.declared.Solved.{Solved}
 

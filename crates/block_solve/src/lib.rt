@@ -3,7 +3,7 @@ use format::Block;
 ghost use mathlib.Core.Path.{_≡_};
 ghost use Rattle.block.specs.Ranges.{Ranged};
 ghost use Rattle.format.specs.Structs.{Sound, blockOf};
-ghost use Rattle.piecewise.specs.Piecewise.{quadratic};
+ghost use Rattle.quadratic.specs.Quadratic.{quadratic};
 ghost use Rattle.block_solve.specs.Solve.{quadraticOf, Solves, Matrices, Words};
 
 // The entries of Q, of the anchors' columns and of the spans'.

@@ -4,8 +4,7 @@ use mathlib.Core.List.{List}
 use lib.ListN.{length}
 use lib.Ieee.{Float}
 use Rattle.sizes.specs.Sizes as Sizes
-use Rattle.piecewise.specs.Holds.{Holds}
-use Rattle.piecewise.specs.Laws.{Shape}
+use Rattle.quadratic.specs.Holds.{Holds, Shape}
 
 -- the engine's sizes, and lists that hold what the counts give, but for the start
 pub record Ready (n m r : ℕ) (q c e b lower upper a rowLower rowUpper at slopes : List Float) : Type 0 where

@@ -12,8 +12,8 @@ use Rattle.vector.specs.Vector.{addScalar}
 use Rattle.active.specs.Answer as Engine
 use Rattle.active.specs.declared.Verdict.{Verdict}
 use Rattle.active.specs.declared.Verdict.the-variants.{Optimal, NonFiniteCovariance, SingularCovariance, Unbounded, NotConverged}
-use Rattle.piecewise.specs.Piecewise.{quadratic}
-use Rattle.piecewise.specs.Piecewise as Piecewise
+use Rattle.quadratic.specs.Quadratic.{quadratic}
+use Rattle.slack_solve.specs.SlackSolve as SlackSolve
 use Rattle.turnover.specs.Turnover.{turnover, within, reaches}
 use Rattle.bracket.specs.declared.Bracket.{Bracket}
 use Rattle.bracket.specs.Bracket.{bracketOf, exceed, accept, warmed, double, cut, closed}
@@ -27,7 +27,7 @@ pub data Problem : Type 0 where
 -- `solve(extra, start)`: the slopes are `kinks.slopes.add_scalar(extra)`
 unfoldable pub solve : Problem → (extra : Float) (start : List Float) → Engine.Answer
 solve (problem n m r q c e b lower upper a rowLower rowUpper at slopes) extra start =
-    Piecewise.solve (quadratic n m r q c e b lower upper a rowLower rowUpper at (addScalar n slopes extra) start)
+    SlackSolve.solve (quadratic n m r q c e b lower upper a rowLower rowUpper at (addScalar n slopes extra) start)
 
 -- how the doubling, or the cuts, end: in a bracket with its best solution, or in an error
 pub data Ended : Type 0 where

@@ -72,7 +72,7 @@ pub fn solve_raised(
 {
     let mut raised = [0.0; sizes::ORIGINALS];
     vector::add_scalar(slopes, n, extra, &mut raised);
-    piecewise::solve_shaped(
+    slack_solve::solve_shaped(
         q,
         c,
         e,

@@ -1,3 +1,2 @@
 pub mod Piecewise
-pub mod Holds
 pub mod Laws

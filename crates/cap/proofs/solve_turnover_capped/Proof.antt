@@ -1,5 +1,5 @@
 use Rattle.folds.specs.Kit.{sym, _∙_, arith, needs}
-use Rattle.piecewise.specs.Laws.{shape}
+use Rattle.quadratic.specs.Laws.{shape}
 use Rattle.turnover.specs.Laws.{kink-above}
 use Rattle.multiplier.specs.Ready.{ready}
 use Rattle.cap.specs.Laws.{cappedOf-capped, wrong-shape, blank-bound, engine-answers, refused-wrongShape, refused-blankBound}

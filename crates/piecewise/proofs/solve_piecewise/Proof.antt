@@ -1,6 +1,7 @@
 use Rattle.folds.specs.Kit.{sym, _∙_, arith, needs}
 use Rattle.active.specs.Laws.{answerOf-answer}
-use Rattle.piecewise.specs.Laws.{shape, wrong-shape, blank-bound, engine-answers, refused-wrongShape, refused-blankBound}
+use Rattle.quadratic.specs.Laws.{shape}
+use Rattle.piecewise.specs.Laws.{wrong-shape, blank-bound, engine-answers, refused-wrongShape, refused-blankBound}
 use Rattle.piecewise.proofs.solve_piecewise.Statement.{statement}
 use Rattle.piecewise.proofs.solve_piecewise.Tie as tie
 

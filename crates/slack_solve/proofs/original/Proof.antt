@@ -1,0 +1,27 @@
+use Rattle.folds.specs.Kit.{_∙_, needs}
+use Rattle.active.specs.Laws.{answer-optimal, answer-nonFinite, answer-singular, answer-unbounded, answer-notConverged}
+use Rattle.active.specs.Laws.{answerOf-nonFinite, answerOf-singular, answerOf-unbounded, answerOf-notConverged}
+use Rattle.slack_solve.specs.SlackSolve.{original}
+use Rattle.slack_solve.proofs.original.Statement.{statement}
+use Rattle.slack_solve.proofs.original.Tie as tie
+
+pub original-spec : {M : Type 1} → statement M
+unfolding original
+original-spec =
+    tie.close
+    (tie.spec
+    (λ c. search needs)  -- enum-told
+    (λ c κs. c .before .before .before .before .before .before .before .before .before .pre)  -- restored-requires
+    (λ c. search needs)  -- enum-told-2
+    (λ c κs. search needs)  -- refused-requires
+    (λ c. search needs)  -- enum-told-3
+    (λ c κs. search needs)  -- refused-requires-2
+    (λ c. search needs)  -- enum-told-4
+    (λ c κs. search needs)  -- refused-requires-3
+    (λ c. search needs)  -- enum-told-5
+    (λ c κs. search needs)  -- refused-requires-4
+    (λ c. rw (c .before .enum-told .given .1, answer-optimal) (c .restored .ensures))  -- returns
+    (λ c. answerOf-nonFinite _ _ _ (c .refused .ensures) ∙ rw (c .before .enum-told2 .given .1, answer-nonFinite))  -- returns-2
+    (λ c. answerOf-singular _ _ _ (c .refused2 .ensures) ∙ rw (c .before .enum-told3 .given .1, answer-singular))  -- returns-3
+    (λ c. answerOf-unbounded _ _ _ (c .refused3 .ensures) ∙ rw (c .before .enum-told4 .given .1, answer-unbounded))  -- returns-4
+    (λ c. answerOf-notConverged _ _ _ (c .refused4 .ensures) ∙ rw (c .before .enum-told5 .given .1, answer-notConverged)))  -- returns-5

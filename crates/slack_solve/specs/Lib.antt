@@ -1,0 +1,3 @@
+pub mod SlackSolve
+pub mod Room
+pub mod Laws

@@ -1,0 +1,678 @@
+// qp.rs, `solve_piecewise` past its tests: the slacks, `Units`, the engine in work memory of its size, and back in the units of the caller.
+ghost use mathlib.Core.Path.{_≡_};
+ghost use Prim.Native.Nat.{_≤_, _+_, _*_};
+ghost use lib.ListN.{length, take};
+ghost use Rattle.sizes.specs.Sizes as Sizes;
+ghost use Rattle.segments.specs.Segments.{AllCut};
+ghost use Rattle.iterate.specs.Problem.{Shaped, problem};
+ghost use Rattle.active.specs.Answer.{answer, answerOf};
+ghost use Rattle.active.specs.Active.{solvePiecewiseInUnits};
+ghost use Rattle.quadratic.specs.Quadratic.{quadratic};
+ghost use Rattle.quadratic.specs.Holds.{Holds};
+ghost use Rattle.slack_solve.specs.SlackSolve as Definition;
+ghost use Rattle.slack_solve.specs.Room.{few, Restores};
+use active::Answer;
+use active::Verdict;
+use segments::Segments;
+
+// The originals, and the rows, of a small problem.
+const FEW: usize = 8;
+
+// The entries of a matrix of work memory, which has a row for each variable with the slacks (ALL) or for each original (FREE), and as many
+// columns, or a column for each column of E with the slacks.
+const ALL_SQUARE: usize = sizes::VARIABLES * sizes::VARIABLES;
+
+const ALL_TALL: usize = sizes::VARIABLES * sizes::COLUMNS;
+
+const FREE_ROWS: usize = sizes::ORIGINALS * sizes::VARIABLES;
+
+const FREE_SQUARE: usize = sizes::ORIGINALS * sizes::ORIGINALS;
+
+const FREE_TALL: usize = sizes::ORIGINALS * sizes::COLUMNS;
+
+const GRAM: usize = sizes::COLUMNS * sizes::COLUMNS;
+
+// The same of a small problem, of 16 variables and 16 columns.
+const SMALL_ALL: usize = (FEW + FEW) * (FEW + FEW);
+
+const SMALL_FREE: usize = FEW * (FEW + FEW);
+
+const SMALL_SQUARE: usize = FEW * FEW;
+
+// Whether x meets the constraints and the rows.
+fn feasible(
+    x: &[f64],
+    e: &[f64],
+    b: &[f64],
+    columns: &[f64],
+    a: &[f64],
+    row_lower: &[f64],
+    row_upper: &[f64],
+    n: usize,
+    m: usize,
+    r: usize,
+) -> bool
+    requires { ⌜ (n ≤ Sizes.variables)
+        × (n ≤ length (now x))
+        × (n * m ≤ length (now e))
+        × (m ≤ length (now b))
+        × (m ≤ length (now columns))
+        × (n * r ≤ length (now a))
+        × (r ≤ length (now «row_lower»))
+        × (r ≤ length (now «row_upper»)) ⌝ }
+    ensures { λ t. ⌜ t
+        ≡ Definition.feasible n m r (now (x .entry)) (now (e .entry)) (now (b .entry)) (now (columns .entry)) (now (a .entry))
+        (now («row_lower» .entry)) (now («row_upper» .entry)) ⌝ }
+{
+    if units::checked(x, e, b, columns, n, m) {
+        return slacks::meets_rows(x, a, row_lower, row_upper, n, r);
+    }
+    false
+}
+
+// A point in `Units`, restored, with its multipliers, if it meets the constraints and the rows there.
+fn restored(
+    u: [f64; sizes::VARIABLES],
+    lambda: [f64; sizes::COLUMNS],
+    passes: usize,
+    e: &[f64],
+    b: &[f64],
+    a: &[f64],
+    row_lower: &[f64],
+    row_upper: &[f64],
+    scales: &[f64],
+    columns: &[f64],
+    n: usize,
+    m: usize,
+    r: usize,
+) -> Answer
+    requires { ⌜ Restores n m r (now e) (now b) (now a) (now «row_lower») (now «row_upper») (now scales) (now columns) ⌝ }
+    ensures { λ s. ⌜ answerOf n (m + r) s
+        ≡ Definition.restored n m r (now (e .entry)) (now (b .entry)) (now (a .entry)) (now («row_lower» .entry)) (now («row_upper» .entry))
+        (now (scales .entry)) (now (columns .entry)) (take (n + r) u) (take (m + r) lambda) passes ⌝ }
+{
+    let v = n + r;
+    let w = m + r;
+    let x = dense::div(&u[..v], scales, n);
+    if feasible(&x[..n], e, b, columns, a, row_lower, row_upper, n, m, r) {
+        let mut multipliers = [0.0; sizes::COLUMNS];
+        vector::div(&lambda[..w], columns, w, &mut multipliers);
+        return Answer {
+            verdict: Verdict::Optimal,
+            x: x,
+            multipliers: multipliers,
+            passes: passes,
+        };
+    }
+    active::refused(Verdict::SingularCovariance)
+}
+
+// What is refused passes.
+fn original(
+    verdict: Verdict,
+    u: [f64; sizes::VARIABLES],
+    lambda: [f64; sizes::COLUMNS],
+    passes: usize,
+    e: &[f64],
+    b: &[f64],
+    a: &[f64],
+    row_lower: &[f64],
+    row_upper: &[f64],
+    scales: &[f64],
+    columns: &[f64],
+    n: usize,
+    m: usize,
+    r: usize,
+) -> Answer
+    requires { ⌜ Restores n m r (now e) (now b) (now a) (now «row_lower») (now «row_upper») (now scales) (now columns) ⌝ }
+    ensures { λ s. ⌜ answerOf n (m + r) s
+        ≡ Definition.original n m r (now (e .entry)) (now (b .entry)) (now (a .entry)) (now («row_lower» .entry)) (now («row_upper» .entry))
+        (now (scales .entry)) (now (columns .entry)) (answer verdict (take (n + r) u) (take (m + r) lambda) passes) ⌝ }
+{
+    match verdict {
+        Verdict::Optimal => restored(
+            u,
+            lambda,
+            passes,
+            e,
+            b,
+            a,
+            row_lower,
+            row_upper,
+            scales,
+            columns,
+            n,
+            m,
+            r,
+        ),
+        Verdict::NonFiniteCovariance => active::refused(Verdict::NonFiniteCovariance),
+        Verdict::SingularCovariance => active::refused(Verdict::SingularCovariance),
+        Verdict::Unbounded => active::refused(Verdict::Unbounded),
+        Verdict::NotConverged => active::refused(Verdict::NotConverged),
+    }
+}
+
+// `solve_piecewise_in_units` in little memory: what a call clears would otherwise cost more than a small solve.
+fn engine_small(
+    q: &[f64],
+    c: &[f64],
+    e: &[f64],
+    b: &[f64],
+    segments: [Segments; sizes::VARIABLES],
+    start: &[f64],
+    n: usize,
+    m: usize,
+    r: usize,
+) -> Answer
+    requires { ⌜ Shaped n (n + r) (m + r) (now q) (now c) (now e) (now b)
+        × AllCut (n + r) segments
+        × (n + r ≤ length (now start))
+        × (m ≤ Sizes.equalities)
+        × (r ≤ few)
+        × (n ≤ few) ⌝ }
+    ensures { λ s. ⌜ answerOf (n + r) (m + r) s
+        ≡ solvePiecewiseInUnits (problem n (n + r) (m + r) (now (q .entry)) (now (c .entry)) (now (e .entry)) (now (b .entry))) segments
+        (now (start .entry)) ⌝ }
+{
+    let mut room = [0.0; SMALL_FREE];
+    let mut q_free = [0.0; SMALL_SQUARE];
+    let mut e_free = [0.0; SMALL_FREE];
+    let mut gram = [0.0; SMALL_ALL];
+    let mut ks = [0.0; SMALL_SQUARE];
+    let mut es = [0.0; SMALL_FREE];
+    let mut left = [0.0; SMALL_FREE];
+    let mut coefficients = [0.0; SMALL_FREE];
+    let mut range = [0.0; SMALL_FREE];
+    let mut qq = [0.0; SMALL_SQUARE];
+    let mut null = [0.0; SMALL_SQUARE];
+    let mut h = [0.0; SMALL_SQUARE];
+    let mut vectors = [0.0; SMALL_SQUARE];
+    let mut l = [0.0; SMALL_SQUARE];
+    let square = n * n;
+    active::solve_piecewise_in_units(
+        q,
+        c,
+        e,
+        b,
+        n + r,
+        m + r,
+        n,
+        segments,
+        start,
+        &mut room,
+        &mut q_free,
+        &mut e_free,
+        &mut gram,
+        &mut ks,
+        &mut es,
+        &mut left,
+        &mut coefficients,
+        &mut range,
+        &mut qq,
+        &mut null,
+        &mut h,
+        &mut vectors,
+        &mut l[..square],
+    )
+}
+
+fn engine_large(
+    q: &[f64],
+    c: &[f64],
+    e: &[f64],
+    b: &[f64],
+    segments: [Segments; sizes::VARIABLES],
+    start: &[f64],
+    n: usize,
+    m: usize,
+    r: usize,
+) -> Answer
+    requires { ⌜ Shaped n (n + r) (m + r) (now q) (now c) (now e) (now b)
+        × AllCut (n + r) segments
+        × (n + r ≤ length (now start))
+        × (m ≤ Sizes.equalities)
+        × (r ≤ Sizes.rows) ⌝ }
+    ensures { λ s. ⌜ answerOf (n + r) (m + r) s
+        ≡ solvePiecewiseInUnits (problem n (n + r) (m + r) (now (q .entry)) (now (c .entry)) (now (e .entry)) (now (b .entry))) segments
+        (now (start .entry)) ⌝ }
+{
+    let mut room = [0.0; FREE_ROWS];
+    let mut q_free = [0.0; FREE_SQUARE];
+    let mut e_free = [0.0; FREE_TALL];
+    let mut gram = [0.0; GRAM];
+    let mut ks = [0.0; FREE_SQUARE];
+    let mut es = [0.0; FREE_TALL];
+    let mut left = [0.0; FREE_TALL];
+    let mut coefficients = [0.0; FREE_TALL];
+    let mut range = [0.0; FREE_TALL];
+    let mut qq = [0.0; FREE_SQUARE];
+    let mut null = [0.0; FREE_SQUARE];
+    let mut h = [0.0; FREE_SQUARE];
+    let mut vectors = [0.0; FREE_SQUARE];
+    let mut l = [0.0; FREE_SQUARE];
+    let square = n * n;
+    active::solve_piecewise_in_units(
+        q,
+        c,
+        e,
+        b,
+        n + r,
+        m + r,
+        n,
+        segments,
+        start,
+        &mut room,
+        &mut q_free,
+        &mut e_free,
+        &mut gram,
+        &mut ks,
+        &mut es,
+        &mut left,
+        &mut coefficients,
+        &mut range,
+        &mut qq,
+        &mut null,
+        &mut h,
+        &mut vectors,
+        &mut l[..square],
+    )
+}
+
+// The same in work memory of its size.
+fn engine_sized(
+    q: &[f64],
+    c: &[f64],
+    e: &[f64],
+    b: &[f64],
+    segments: [Segments; sizes::VARIABLES],
+    start: &[f64],
+    n: usize,
+    m: usize,
+    r: usize,
+) -> Answer
+    requires { ⌜ Shaped n (n + r) (m + r) (now q) (now c) (now e) (now b)
+        × AllCut (n + r) segments
+        × (n + r ≤ length (now start))
+        × (m ≤ Sizes.equalities)
+        × (r ≤ Sizes.rows) ⌝ }
+    ensures { λ s. ⌜ answerOf (n + r) (m + r) s
+        ≡ solvePiecewiseInUnits (problem n (n + r) (m + r) (now (q .entry)) (now (c .entry)) (now (e .entry)) (now (b .entry))) segments
+        (now (start .entry)) ⌝ }
+{
+    if n <= FEW {
+        if r <= FEW {
+            return engine_small(q, c, e, b, segments, start, n, m, r);
+        }
+    }
+    engine_large(q, c, e, b, segments, start, n, m, r)
+}
+
+// The solve of Q and E with the slacks, which are given in units, with their scales.
+fn solve_scaled(
+    uq: &[f64],
+    ue: &[f64],
+    c: &[f64],
+    b: &[f64],
+    lower: &[f64],
+    upper: &[f64],
+    a: &[f64],
+    row_lower: &[f64],
+    row_upper: &[f64],
+    at: &[f64],
+    slopes: &[f64],
+    start: &[f64],
+    scales: &[f64],
+    columns: &[f64],
+    n: usize,
+    m: usize,
+    r: usize,
+) -> Answer
+    requires { ⌜ Holds n m r (now c) (now b) (now lower) (now upper) (now a) (now «row_lower») (now «row_upper») (now at) (now slopes)
+        (now start)
+        × ((n + r) * (n + r) ≤ length (now uq))
+        × ((n + r) * (m + r) ≤ length (now ue))
+        × (n + r ≤ length (now scales))
+        × (m + r ≤ length (now columns)) ⌝ }
+    ensures { λ s. ⌜ answerOf (n + r) (m + r) s
+        ≡ Definition.solveScaled n m r (now (uq .entry)) (now (ue .entry)) (now (c .entry)) (now (b .entry)) (now (lower .entry)) (now (upper .entry))
+        (now (a .entry)) (now («row_lower» .entry)) (now («row_upper» .entry)) (now (at .entry)) (now (slopes .entry)) (now (start .entry))
+        (now (scales .entry)) (now (columns .entry)) ⌝ }
+{
+    let v = n + r;
+    let w = m + r;
+    let c_all = slacks::with_zeros(c, n, r);
+    let b_all = slacks::with_zeros(b, m, r);
+    let uc = dense::div(&c_all[..v], scales, v);
+    let ub = dense::div(&b_all[..w], columns, w);
+    let segments = slacks::all_segments(
+        lower,
+        upper,
+        at,
+        slopes,
+        row_lower,
+        row_upper,
+        scales,
+        n,
+        r,
+    );
+    let first = slacks::slacks_start(start, a, scales, n, r);
+    engine_sized(uq, &uc[..v], ue, &ub[..w], segments, &first[..v], n, m, r)
+}
+
+// The solve of Q and E with the slacks, in `Units`, and back. The slices uq and ue are work memory.
+fn solve_with_slacks(
+    q_all: &[f64],
+    e_all: &[f64],
+    c: &[f64],
+    e: &[f64],
+    b: &[f64],
+    lower: &[f64],
+    upper: &[f64],
+    a: &[f64],
+    row_lower: &[f64],
+    row_upper: &[f64],
+    at: &[f64],
+    slopes: &[f64],
+    start: &[f64],
+    n: usize,
+    m: usize,
+    r: usize,
+    uq: &mut [f64],
+    ue: &mut [f64],
+) -> Answer
+    requires { ⌜ Holds n m r (now c) (now b) (now lower) (now upper) (now a) (now «row_lower») (now «row_upper») (now at) (now slopes)
+        (now start)
+        × (n * m ≤ length (now e))
+        × ((n + r) * (n + r) ≤ length (now «q_all»))
+        × ((n + r) * (m + r) ≤ length (now «e_all»))
+        × ((n + r) * (n + r) ≤ length (now uq))
+        × ((n + r) * (m + r) ≤ length (now ue)) ⌝ }
+    ensures { λ s. ⌜ answerOf n (m + r) s
+        ≡ Definition.solveWithSlacks n m r (now («q_all» .entry)) (now («e_all» .entry)) (now (c .entry)) (now (e .entry)) (now (b .entry))
+        (now (lower .entry)) (now (upper .entry)) (now (a .entry)) (now («row_lower» .entry)) (now («row_upper» .entry)) (now (at .entry))
+        (now (slopes .entry)) (now (start .entry)) ⌝ }
+{
+    let v = n + r;
+    let w = m + r;
+    let square = v * v;
+    let entries = v * w;
+    let scales = slacks::scales_with_slacks(q_all, a, n, r);
+    let columns = units::column_scales(e_all, v, w);
+    units::units_k(q_all, v, &scales[..v], uq);
+    units::units_e(e_all, v, w, &scales[..v], &columns[..w], ue);
+    let s = solve_scaled(
+        &uq[..square],
+        &ue[..entries],
+        c,
+        b,
+        lower,
+        upper,
+        a,
+        row_lower,
+        row_upper,
+        at,
+        slopes,
+        start,
+        &scales[..v],
+        &columns[..w],
+        n,
+        m,
+        r,
+    );
+    let verdict = s.verdict;
+    let u = s.x;
+    let lambda = s.multipliers;
+    original(
+        verdict,
+        u,
+        lambda,
+        s.passes,
+        e,
+        b,
+        a,
+        row_lower,
+        row_upper,
+        &scales[..v],
+        &columns[..w],
+        n,
+        m,
+        r,
+    )
+}
+
+// The problem with the slacks. The slices from q_all on are work memory.
+fn solve_in(
+    q: &[f64],
+    c: &[f64],
+    e: &[f64],
+    b: &[f64],
+    lower: &[f64],
+    upper: &[f64],
+    a: &[f64],
+    row_lower: &[f64],
+    row_upper: &[f64],
+    at: &[f64],
+    slopes: &[f64],
+    start: &[f64],
+    n: usize,
+    m: usize,
+    r: usize,
+    q_all: &mut [f64],
+    e_all: &mut [f64],
+    uq: &mut [f64],
+    ue: &mut [f64],
+) -> Answer
+    requires { ⌜ Holds n m r (now c) (now b) (now lower) (now upper) (now a) (now «row_lower») (now «row_upper») (now at) (now slopes)
+        (now start)
+        × (n * n ≤ length (now q))
+        × (n * m ≤ length (now e))
+        × ((n + r) * (n + r) ≤ length (now «q_all»))
+        × ((n + r) * (m + r) ≤ length (now «e_all»))
+        × ((n + r) * (n + r) ≤ length (now uq))
+        × ((n + r) * (m + r) ≤ length (now ue)) ⌝ }
+    ensures { λ s. ⌜ answerOf n (m + r) s
+        ≡ Definition.solve (quadratic n m r (now (q .entry)) (now (c .entry)) (now (e .entry)) (now (b .entry)) (now (lower .entry))
+        (now (upper .entry)) (now (a .entry)) (now («row_lower» .entry)) (now («row_upper» .entry)) (now (at .entry)) (now (slopes .entry))
+        (now (start .entry))) ⌝ }
+{
+    let v = n + r;
+    let square = v * v;
+    let entries = v * (m + r);
+    slacks::with_slacks_q(q, n, r, q_all);
+    slacks::with_slacks_e(e, a, n, m, r, e_all);
+    solve_with_slacks(
+        &q_all[..square],
+        &e_all[..entries],
+        c,
+        e,
+        b,
+        lower,
+        upper,
+        a,
+        row_lower,
+        row_upper,
+        at,
+        slopes,
+        start,
+        n,
+        m,
+        r,
+        uq,
+        ue,
+    )
+}
+
+fn solve_small(
+    q: &[f64],
+    c: &[f64],
+    e: &[f64],
+    b: &[f64],
+    lower: &[f64],
+    upper: &[f64],
+    a: &[f64],
+    row_lower: &[f64],
+    row_upper: &[f64],
+    at: &[f64],
+    slopes: &[f64],
+    start: &[f64],
+    n: usize,
+    m: usize,
+    r: usize,
+) -> Answer
+    requires { ⌜ Holds n m r (now c) (now b) (now lower) (now upper) (now a) (now «row_lower») (now «row_upper») (now at) (now slopes)
+        (now start)
+        × (n * n ≤ length (now q))
+        × (n * m ≤ length (now e))
+        × (n ≤ few)
+        × (r ≤ few) ⌝ }
+    ensures { λ s. ⌜ answerOf n (m + r) s
+        ≡ Definition.solve (quadratic n m r (now (q .entry)) (now (c .entry)) (now (e .entry)) (now (b .entry)) (now (lower .entry))
+        (now (upper .entry)) (now (a .entry)) (now («row_lower» .entry)) (now («row_upper» .entry)) (now (at .entry)) (now (slopes .entry))
+        (now (start .entry))) ⌝ }
+{
+    let mut q_all = [0.0; SMALL_ALL];
+    let mut e_all = [0.0; SMALL_ALL];
+    let mut uq = [0.0; SMALL_ALL];
+    let mut ue = [0.0; SMALL_ALL];
+    solve_in(
+        q,
+        c,
+        e,
+        b,
+        lower,
+        upper,
+        a,
+        row_lower,
+        row_upper,
+        at,
+        slopes,
+        start,
+        n,
+        m,
+        r,
+        &mut q_all,
+        &mut e_all,
+        &mut uq,
+        &mut ue,
+    )
+}
+
+fn solve_large(
+    q: &[f64],
+    c: &[f64],
+    e: &[f64],
+    b: &[f64],
+    lower: &[f64],
+    upper: &[f64],
+    a: &[f64],
+    row_lower: &[f64],
+    row_upper: &[f64],
+    at: &[f64],
+    slopes: &[f64],
+    start: &[f64],
+    n: usize,
+    m: usize,
+    r: usize,
+) -> Answer
+    requires { ⌜ Holds n m r (now c) (now b) (now lower) (now upper) (now a) (now «row_lower») (now «row_upper») (now at) (now slopes)
+        (now start)
+        × (n * n ≤ length (now q))
+        × (n * m ≤ length (now e)) ⌝ }
+    ensures { λ s. ⌜ answerOf n (m + r) s
+        ≡ Definition.solve (quadratic n m r (now (q .entry)) (now (c .entry)) (now (e .entry)) (now (b .entry)) (now (lower .entry))
+        (now (upper .entry)) (now (a .entry)) (now («row_lower» .entry)) (now («row_upper» .entry)) (now (at .entry)) (now (slopes .entry))
+        (now (start .entry))) ⌝ }
+{
+    let mut q_all = [0.0; ALL_SQUARE];
+    let mut e_all = [0.0; ALL_TALL];
+    let mut uq = [0.0; ALL_SQUARE];
+    let mut ue = [0.0; ALL_TALL];
+    solve_in(
+        q,
+        c,
+        e,
+        b,
+        lower,
+        upper,
+        a,
+        row_lower,
+        row_upper,
+        at,
+        slopes,
+        start,
+        n,
+        m,
+        r,
+        &mut q_all,
+        &mut e_all,
+        &mut uq,
+        &mut ue,
+    )
+}
+
+// The solve in work memory of its size.
+pub fn solve_shaped(
+    q: &[f64],
+    c: &[f64],
+    e: &[f64],
+    b: &[f64],
+    lower: &[f64],
+    upper: &[f64],
+    a: &[f64],
+    row_lower: &[f64],
+    row_upper: &[f64],
+    at: &[f64],
+    slopes: &[f64],
+    start: &[f64],
+    n: usize,
+    m: usize,
+    r: usize,
+) -> Answer
+    requires { ⌜ Holds n m r (now c) (now b) (now lower) (now upper) (now a) (now «row_lower») (now «row_upper») (now at) (now slopes)
+        (now start)
+        × (n * n ≤ length (now q))
+        × (n * m ≤ length (now e)) ⌝ }
+    ensures { λ s. ⌜ answerOf n (m + r) s
+        ≡ Definition.solve (quadratic n m r (now (q .entry)) (now (c .entry)) (now (e .entry)) (now (b .entry)) (now (lower .entry))
+        (now (upper .entry)) (now (a .entry)) (now («row_lower» .entry)) (now («row_upper» .entry)) (now (at .entry)) (now (slopes .entry))
+        (now (start .entry))) ⌝ }
+{
+    if n <= FEW {
+        if r <= FEW {
+            return solve_small(
+                q,
+                c,
+                e,
+                b,
+                lower,
+                upper,
+                a,
+                row_lower,
+                row_upper,
+                at,
+                slopes,
+                start,
+                n,
+                m,
+                r,
+            );
+        }
+    }
+    solve_large(
+        q,
+        c,
+        e,
+        b,
+        lower,
+        upper,
+        a,
+        row_lower,
+        row_upper,
+        at,
+        slopes,
+        start,
+        n,
+        m,
+        r,
+    )
+}
