@@ -9,25 +9,11 @@ use lib.Ieee.{Float}
 use Rattle.folds.specs.Fold.{pick, both}
 use Rattle.arith.specs.Float.{f0}
 use Rattle.sizes.specs.Sizes.{originals, equalities}
-use Rattle.units.specs.Units as Units
-use Rattle.units.specs.Units.{checked, diagonalScales, columnScales, unitsK, unitsC, unitsE, unitsB}
+use Rattle.units.specs.Units.{diagonalScales, columnScales, unitsK, unitsC, unitsE, unitsB}
 use Rattle.scaled.specs.System.{System, system}
 use Rattle.solution.specs.Solution.{Kkt, optimum, noOptimum, nonFinite, singular}
 use Rattle.noisy_kkt.specs.NoisyKkt.{solveNoisyKkt}
-
--- ---- back in the units of the caller
--- `checked(units.original(&u), e, b, &units.column_scales)?`, then `units.original_multipliers(&multipliers)`
-unfoldable pub restored : (n m : ℕ) (e b scales columns u multipliers : List Float) → Kkt
-restored n m e b scales columns u multipliers =
-    let x = Units.original n u scales in
-    pick (checked n m x e b columns) (optimum x (Units.originalMultipliers m multipliers columns)) singular
-
--- of a solution in `Units`; `Ok(None)` and what is refused pass
-unfoldable pub original : (n m : ℕ) (e b scales columns : List Float) → Kkt → Kkt
-original n m e b scales columns (optimum u multipliers) = restored n m e b scales columns u multipliers
-original n m e b scales columns noOptimum = noOptimum
-original n m e b scales columns nonFinite = nonFinite
-original n m e b scales columns singular = singular
+use Rattle.kkt_original.specs.Original.{original}
 
 -- ---- `solve_kkt`
 unfoldable pub solveUnits : System → Kkt

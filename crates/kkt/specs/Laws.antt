@@ -14,7 +14,8 @@ use Rattle.units.specs.Units.{diagonalScales, columnScales, unitsK, unitsC, uni
 use Rattle.scaled.specs.System.{Sized, system}
 use Rattle.solution.specs.Solution.{Kkt}
 use Rattle.noisy_kkt.specs.NoisyKkt.{solveNoisyKkt}
-use Rattle.kkt.specs.Kkt.{original, solveUnits, shaped}
+use Rattle.kkt_original.specs.Original.{original}
+use Rattle.kkt.specs.Kkt.{solveUnits, shaped}
 
 pub units-from : {r s : Kkt} {scales columns uk ue uc ub : List Float} (n m : ℕ) (k c e b : List Float) →
     scales ≡ diagonalScales n k → columns ≡ columnScales n m e → uk ≡ unitsK n k scales → ue ≡ unitsE n m e scales columns →

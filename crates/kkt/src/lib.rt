@@ -2,7 +2,6 @@
 ghost use mathlib.Core.Path.{_≡_};
 ghost use Prim.Native.Nat.{_≤_, _*_};
 ghost use lib.ListN.{length, take};
-ghost use Rattle.vector.specs.Vector as Vector;
 ghost use Rattle.sizes.specs.Sizes as Sizes;
 ghost use Rattle.scaled.specs.System.{Sized, system};
 ghost use Rattle.solution.specs.Solution.{answer, solutionOf};
@@ -18,78 +17,6 @@ const SQUARE: usize = sizes::ORIGINALS * sizes::ORIGINALS;
 const TALL: usize = sizes::ORIGINALS * sizes::EQUALITIES;
 
 const SMALL: usize = 8 * sizes::EQUALITIES;
-
-// `original_multipliers`
-fn original_multipliers(multipliers: &[f64], columns: &[f64], m: usize) -> [f64; sizes::COLUMNS]
-    requires { ⌜ (m ≤ Sizes.columns) × (m ≤ length (now multipliers)) × (m ≤ length (now columns)) ⌝ }
-    ensures { λ r. ⌜ take m r ≡ Vector.div m (now (multipliers .entry)) (now (columns .entry)) ⌝ }
-{
-    let mut y = [0.0; sizes::COLUMNS];
-    vector::div(multipliers, columns, m, &mut y);
-    y
-}
-
-// A solution in `Units`, restored and checked against the constraints.
-fn restored(
-    u: [f64; sizes::VARIABLES],
-    multipliers: [f64; sizes::COLUMNS],
-    e: &[f64],
-    b: &[f64],
-    scales: &[f64],
-    columns: &[f64],
-    n: usize,
-    m: usize,
-) -> Solution
-    requires { ⌜ (n ≤ Sizes.originals)
-        × (m ≤ Sizes.columns)
-        × (n * m ≤ length (now e))
-        × (m ≤ length (now b))
-        × (n ≤ length (now scales))
-        × (m ≤ length (now columns)) ⌝ }
-    ensures { λ r. ⌜ solutionOf n m r
-        ≡ Definition.restored n m (now (e .entry)) (now (b .entry)) (now (scales .entry)) (now (columns .entry)) (take n u) (take m multipliers) ⌝ }
-{
-    let x = dense::div(&u[..n], scales, n);
-    if units::checked(&x[..n], e, b, columns, n, m) {
-        let y = original_multipliers(&multipliers[..m], columns, m);
-        return Solution {
-            verdict: Verdict::Solved,
-            x: x,
-            multipliers: y,
-        };
-    }
-    solution::refused(Verdict::SingularCovariance)
-}
-
-// `Ok(None)` and what is refused pass.
-fn original(
-    verdict: Verdict,
-    u: [f64; sizes::VARIABLES],
-    multipliers: [f64; sizes::COLUMNS],
-    e: &[f64],
-    b: &[f64],
-    scales: &[f64],
-    columns: &[f64],
-    n: usize,
-    m: usize,
-) -> Solution
-    requires { ⌜ (n ≤ Sizes.originals)
-        × (m ≤ Sizes.columns)
-        × (n * m ≤ length (now e))
-        × (m ≤ length (now b))
-        × (n ≤ length (now scales))
-        × (m ≤ length (now columns)) ⌝ }
-    ensures { λ r. ⌜ solutionOf n m r
-        ≡ Definition.original n m (now (e .entry)) (now (b .entry)) (now (scales .entry)) (now (columns .entry))
-        (answer verdict (take n u) (take m multipliers)) ⌝ }
-{
-    match verdict {
-        Verdict::Solved => restored(u, multipliers, e, b, scales, columns, n, m),
-        Verdict::NoOptimum => solution::refused(Verdict::NoOptimum),
-        Verdict::NonFiniteCovariance => solution::refused(Verdict::NonFiniteCovariance),
-        Verdict::SingularCovariance => solution::refused(Verdict::SingularCovariance),
-    }
-}
 
 // The solve in `Units`, and back. The slices from uk on are work memory.
 fn solve_in(
@@ -150,7 +77,7 @@ fn solve_in(
     let verdict = s.verdict;
     let u = s.x;
     let multipliers = s.multipliers;
-    original(
+    kkt_original::original(
         verdict,
         u,
         multipliers,

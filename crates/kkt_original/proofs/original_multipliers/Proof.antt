@@ -1,8 +1,8 @@
 use Rattle.folds.specs.Kit.{needs}
 use Rattle.folds.specs.Tab.{taken-over}
 use Rattle.vector.specs.Laws.{length-div}
-use Rattle.kkt.proofs.original_multipliers.Statement.{statement}
-use Rattle.kkt.proofs.original_multipliers.Tie as tie
+use Rattle.kkt_original.proofs.original_multipliers.Statement.{statement}
+use Rattle.kkt_original.proofs.original_multipliers.Tie as tie
 
 pub original-multipliers-spec : {M : Type 1} → statement M
 original-multipliers-spec =

@@ -1,9 +1,9 @@
 use Rattle.folds.specs.Kit.{_∙_, needs}
 use Rattle.solution.specs.Laws.{answer-solved, answer-noOptimum, answer-nonFinite, answer-singular}
 use Rattle.solution.specs.Laws.{solution-noOptimum, solution-nonFinite, solution-singular}
-use Rattle.kkt.specs.Kkt.{original}
-use Rattle.kkt.proofs.original.Statement.{statement}
-use Rattle.kkt.proofs.original.Tie as tie
+use Rattle.kkt_original.specs.Original.{original}
+use Rattle.kkt_original.proofs.original.Statement.{statement}
+use Rattle.kkt_original.proofs.original.Tie as tie
 
 pub original-spec : {M : Type 1} → statement M
 unfolding original

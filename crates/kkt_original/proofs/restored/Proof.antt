@@ -1,9 +1,9 @@
 use Rattle.folds.specs.Kit.{refl, sym, _∙_, arith, length, needs, pick}
 use lib.Seq.{length-take-le}
 use Rattle.solution.specs.Laws.{solution-solved, solution-singular}
-use Rattle.kkt.specs.Kkt.{restored}
-use Rattle.kkt.proofs.restored.Statement.{statement}
-use Rattle.kkt.proofs.restored.Tie as tie
+use Rattle.kkt_original.specs.Original.{restored}
+use Rattle.kkt_original.proofs.restored.Statement.{statement}
+use Rattle.kkt_original.proofs.restored.Tie as tie
 
 slice-aggregate-div : tie.Need-slice-aggregate-div
 slice-aggregate-div c = sym (length-take-le _ _ (omega arith))
