@@ -8,10 +8,11 @@ use Rattle.format.specs.Read.{Outcome, read}
 use Rattle.format.specs.Longest.{enough, read-enough}
 use Rattle.format.specs.Structs.{blockOf}
 use Rattle.listing.specs.Listing.{plan, refused}
-use Rattle.service.specs.Place as Place
-use Rattle.service.specs.Held.{PlacedFor, holds-refusal, holds-answer}
+use Rattle.placement.specs.Placed as Placed
+use Rattle.placement.specs.Held.{holds-refusal, holds-answer}
+use Rattle.service.specs.Held.{PlacedFor}
 use Rattle.service.specs.Laws.{block-refused, block-placed}
-use Rattle.service.specs.declared.Placement.{Placement}
+use Rattle.placement.specs.declared.Placement.{Placement}
 use Rattle.places.specs.Places.{room, ofPlaced, ofRead, listing}
 
 pub listing-enough : (s : List ℕ) → listing s ≡ listing (take enough s)
@@ -34,5 +35,5 @@ module _ {s : List ℕ} {p : Placement} (P : PlacedFor s room p) where
       go (Read.block b) r = sym (ap ofRead r ∙ ap (ofPlaced b) (block-placed s room b r ∙ sym (P .is) ∙ holds-refusal p h))
       go (Read.refused n) r = sym (ap ofRead r ∙ ap refused (same n (block-refused s room n r ∙ sym (P .is) ∙ holds-refusal p h)))
         where
-          same : (n : ℕ) → Place.refused n ≡ Place.refused (p .number) → n ≡ p .number
+          same : (n : ℕ) → Placed.refused n ≡ Placed.refused (p .number) → n ≡ p .number
           same n e = cc

@@ -7,16 +7,17 @@ use Rattle.format.specs.Read as Read
 use Rattle.format.specs.Read.{Outcome, read}
 use Rattle.answer.specs.File.{fileSize}
 use Rattle.listing.specs.Listing.{plan, refused}
-use Rattle.service.specs.Place as Place
-use Rattle.service.specs.Place.{Placed, placeBlock}
+use Rattle.placement.specs.Placed as Placed
+use Rattle.placement.specs.Placed.{Placed}
+use Rattle.service.specs.Place.{placeBlock}
 
 -- no answer file is longer, so that there is no refusal 8
 abbrev pub room : ℕ
 room = fileSize maxWords (maxAnchors + maxSpans + 1)
 
 unfoldable pub ofPlaced : Block → Placed → List ℕ
-ofPlaced b (Place.answered a) = plan b (a .times) (a .gap) (a .passes)
-ofPlaced b (Place.refused n) = refused n
+ofPlaced b (Placed.answered a) = plan b (a .times) (a .gap) (a .passes)
+ofPlaced b (Placed.refused n) = refused n
 
 unfoldable pub ofRead : Outcome → List ℕ
 ofRead (Read.block b) = ofPlaced b (placeBlock b room)

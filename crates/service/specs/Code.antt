@@ -1,97 +1,31 @@
--- What the code's arrays hold of an engine's answer: the block is b, the weights and multipliers are the first of x and μ.
-use mathlib.Core.Path.{_≡_, refl, sym, _∙_, ap, ap₂, subst, subst₂}
-use mathlib.Core.Bool.{Bool, true, false}
+-- The service by the cases of the code.
+use mathlib.Core.Path.{_≡_, refl, sym, _∙_, ap, ap₂, subst}
 use mathlib.Core.List.{List}
 use Prim.Native.Nat.{ℕ, _+_, _≤_, _<_}
-use lib.ListN.{length, take}
-use lib.Seq.{length-take-le}
-use lib.IntN.{ℤ}
+use lib.ListN.{length}
 use Rattle.block.specs.Block as Spec
-use Rattle.block.specs.Keeps.{bounded}
-use Rattle.block.specs.Ranges.{Ranged, Timed}
+use Rattle.block.specs.Ranges.{Ranged}
 use Rattle.format.specs.declared.Block.{Block}
 use Rattle.format.specs.Read.{Outcome, read}
 use Rattle.format.specs.InRange.{read-ranged}
 use Rattle.format.specs.Structs.{blockOf, Sound}
 use Rattle.format.specs.Entries.{words-length}
-use Rattle.exact.specs.Planned.{Planned}
 use Rattle.gap.specs.Prices.{priceCount}
-use Rattle.gap.specs.Input.{PlanAndPrices, same-count}
+use Rattle.gap.specs.Input.{same-count}
 use Rattle.answer.specs.File.{file, fileSize, Written}
 use Rattle.answer.specs.Pasted.{length-file}
 use Rattle.answer.specs.Back.{Sized}
-use Rattle.block_solve.specs.Solve.{weights, multipliersOf, Solves}
+use Rattle.block_solve.specs.Solve.{Solves}
 use Rattle.block_solve.specs.declared.Solved.{Solved}
-use Rattle.rounding.specs.Lists.{timesOf, pricesOf, TimesOf, PricesOf}
-use Rattle.rounding.specs.Laws.{times-timed}
-use Rattle.rounding.specs.declared.Times.{Times}
-use Rattle.service.specs.Place as Place
-use Rattle.service.specs.Place.{answered, refused, answerFor, placeBlock, place}
+use Rattle.placement.specs.Placed.{answered, refused}
+use Rattle.placement.specs.Held.{answerIn, Holds, holds-refusal, holds-answer, holds-number}
+use Rattle.placement.specs.Code.{writtenOf}
+use Rattle.placement.specs.declared.Placement.{Placement}
+use Rattle.service.specs.Place.{placeBlock, place}
+use Rattle.service.specs.Held.{PlacedFor}
 use Rattle.service.specs.Promise.{Answers, Answered}
-use Rattle.service.specs.Laws.{plan-and-prices, out-of-range, not-bounded, is-answer, too-small, engine-refused, engine-answers, block-refused}
-use Rattle.service.specs.Laws.{block-placed, block-answer, place-answer}
+use Rattle.service.specs.Laws.{too-small, engine-refused, engine-answers, block-refused, block-placed, block-answer, place-answer}
 use Rattle.service.specs.Written.{same-block, answer-sized, answer-written, all-kept}
-use Rattle.service.specs.declared.Placement.{Placement}
-use Rattle.service.specs.Held.{answerIn, Holds, PlacedFor, holds-refusal, holds-answer, holds-number}
-
--- what is written of the engine's answer, as the code holds it
-abbrev pub writtenOf : Block → Solved → Place.Placed
-writtenOf b s = Place.written (blockOf b) (weights b s) (multipliersOf b s) (s .passes) (s .raise)
-
-module _ {b : Block} (S : Sound b) (R : Ranged (blockOf b)) (s : Solved) (x-room : b .words ≤ length (s .x))
-    (μ-room : b .anchors + b .spans ≤ length (s .multipliers)) where
-  x-long : length (weights b s) ≡ length (blockOf b .words)
-  x-long = length-take-le _ _ x-room ∙ sym (words-length S)
-
-  μ-long : length (multipliersOf b s) ≡ priceCount (blockOf b)
-  μ-long = length-take-le _ _ μ-room ∙ sym (same-count S)
-
-  module _ {t : Times} (T : TimesOf (weights b s) t) where
-    pub times-off : {p : Placement} → t .on ≡ false → Holds (refused 14) b p → Holds (writtenOf b s) b p
-    times-off e h =
-        record { is = out-of-range R _ _ (s .passes) (s .raise) x-long μ-long (sym (T .all-on) ∙ e) (h .is); of-block = h .of-block }
-
-    module _ (on : t .on ≡ true) where
-      pub times-are : take (b .words) (t .times) ≡ timesOf (weights b s)
-      times-are = ap (λ (k : ℕ). take k (t .times)) (sym (length-take-le _ _ x-room)) ∙ T .are on
-
-      pub times-planned : length (take (b .words) (t .times)) ≡ b .words → Planned b (take (b .words) (t .times))
-      times-planned l =
-          record {
-            sound = S;
-            ranged = R;
-            each = l;
-            timed =
-                subst₂ Timed (length-take-le _ _ x-room ∙ sym l) (sym times-are) (times-timed (weights b s) (sym (T .all-on) ∙ on));
-          }
-
-      judged-is : {r : Bool} → bounded (blockOf b) (take (b .words) (t .times)) ≡ r → bounded (blockOf b) (timesOf (weights b s)) ≡ r
-      judged-is e = ap (bounded (blockOf b)) (sym times-are) ∙ e
-
-      pub times-break : {p : Placement} → bounded (blockOf b) (take (b .words) (t .times)) ≡ false → Holds (refused 14) b p
-          → Holds (writtenOf b s) b p
-      times-break e h =
-          record { is = not-bounded R _ _ (s .passes) (s .raise) x-long μ-long (judged-is e) (h .is); of-block = h .of-block }
-
-      module _ (e : bounded (blockOf b) (take (b .words) (t .times)) ≡ true) {ps : List ℤ} (P : PricesOf (multipliersOf b s) (s .raise) ps) where
-        prices-are : take (b .anchors + b .spans + 1) ps ≡ pricesOf (multipliersOf b s) (s .raise)
-        prices-are = ap (λ (k : ℕ). take (k + 1) ps) (sym (length-take-le _ _ μ-room)) ∙ P .are
-
-        pub times-priced : PlanAndPrices (blockOf b) (take (b .words) (t .times)) (take (b .anchors + b .spans + 1) ps)
-        times-priced =
-            subst₂ (PlanAndPrices (blockOf b)) (sym times-are) (sym prices-are)
-            (plan-and-prices R _ _ (s .passes) (s .raise) x-long μ-long (judged-is e))
-
-        pub times-answer : {p : Placement}
-            → Holds (answered (answerFor (blockOf b) (take (b .words) (t .times)) (take (b .anchors + b .spans + 1) ps) (s .passes))) b p
-            → Holds (writtenOf b s) b p
-        times-answer h =
-            record {
-              is =
-                  is-answer R _ _ (s .passes) (s .raise) x-long μ-long (sym (T .all-on) ∙ on) (judged-is e)
-                  (h .is ∙ ap₂ (λ (y z : List ℤ). answered (answerFor (blockOf b) y z (s .passes))) times-are prices-are);
-              of-block = h .of-block;
-            }
 
 -- ---- a block, by the cases of the code: the file's size is `size`
 module _ {b : Block} (S : Sound b) {size : ℕ} (e : size ≡ fileSize (b .words) (b .anchors + b .spans + 1)) where
@@ -105,7 +39,7 @@ module _ {b : Block} (S : Sound b) {size : ℕ} (e : size ≡ fileSize (b .words
     fits : fileSize (length (blockOf b .words)) (priceCount (blockOf b) + 1) ≤ room
     fits = subst (λ (n : ℕ). n ≤ room) size-is h
 
-    pub engine-solved : {p : Placement} → s .number ≡ 0 → Holds (writtenOf b s) b p → Holds (placeBlock (blockOf b) room) b p
+    pub engine-solved : {p : Placement} → s .number ≡ 0 → Holds (writtenOf b (s .x) (s .multipliers) (s .passes) (s .raise)) b p → Holds (placeBlock (blockOf b) room) b p
     engine-solved z H = record { is = engine-answers (blockOf b) room fits _ _ _ _ (Z .optimal-is z) (H .is); of-block = H .of-block }
 
     pub engine-refuses : {p : Placement} → (s .number ≡ 0 → ⊥) → Holds (refused (s .number)) b p → Holds (placeBlock (blockOf b) room) b p

@@ -27,7 +27,8 @@ use Rattle.answer.specs.Back as Back
 use Rattle.answer.specs.Back.{Sized, read-back}
 use Rattle.plan_check.specs.Laws.{cost-bounded}
 use Rattle.plan_check.specs.Promise.{CostBound}
-use Rattle.service.specs.Place.{answered, refused, place, numberOf, sliceAfter, writtenAfter}
+use Rattle.placement.specs.Placed.{answered, refused}
+use Rattle.service.specs.Place.{place, numberOf, sliceAfter, writtenAfter}
 use Rattle.service.specs.Promise.{Answers, Plan, Answered}
 use Rattle.service.specs.Laws.{Found, place-answer}
 

@@ -10,7 +10,7 @@ use Rattle.format.specs.Structs.{blockOf}
 use Rattle.listing.specs.Listing.{plan}
 use Rattle.listing.specs.Appended.{listed-as}
 use Rattle.service.specs.Held.{PlacedFor}
-use Rattle.service.specs.declared.Placement.{Placement}
+use Rattle.placement.specs.declared.Placement.{Placement}
 use Rattle.places.specs.Places.{room}
 use Rattle.places.specs.Laws.{listing-plan, listing-refusal}
 use Rattle.places.proofs.listing_of.Statement.{statement}

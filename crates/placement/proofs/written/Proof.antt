@@ -3,26 +3,26 @@ use lib.ListN.{take}
 use lib.Seq.{length-take-le}
 use Rattle.block.specs.Keeps.{bounded}
 use Rattle.format.specs.Structs.{blockOf}
-use Rattle.service.specs.Code.{times-off, times-planned, times-break, times-priced, times-answer}
-use Rattle.service.proofs.written.Statement.{statement}
-use Rattle.service.proofs.written.Tie as tie
+use Rattle.placement.specs.Code.{times-off, times-planned, times-break, times-priced, times-answer}
+use Rattle.placement.proofs.written.Statement.{statement}
+use Rattle.placement.proofs.written.Tie as tie
 
 -- the arrays have room for what counts of them
 module _ (c : tie.Start) where
-  x-room : c .args .b .words ≤ length (c .args .s .x)
-  x-room = let e : length (c .args .s .x) ≡ 32 = search needs in omega (arith, c .pre .0 .words)
+  x-room : c .args .b .words ≤ length (c .args .t2)
+  x-room = let e : length (c .args .t2) ≡ 32 = search needs in omega (arith, c .pre .0 .words)
 
-  μ-room : c .args .b .anchors + c .args .b .spans ≤ length (c .args .s .multipliers)
-  μ-room = let e : length (c .args .s .multipliers) ≡ 24 = search needs in omega (arith, c .pre .0 .anchors, c .pre .0 .spans)
+  μ-room : c .args .b .anchors + c .args .b .spans ≤ length (c .args .t3)
+  μ-room = let e : length (c .args .t3) ≡ 24 = search needs in omega (arith, c .pre .0 .anchors, c .pre .0 .spans)
 
-  x-long : length (take (c .args .b .words) (c .args .s .x)) ≡ c .args .b .words
+  x-long : length (take (c .args .b .words) (c .args .t2)) ≡ c .args .b .words
   x-long = length-take-le _ _ x-room
 
-  μ-long : length (take (c .args .b .anchors + c .args .b .spans) (c .args .s .multipliers)) ≡ c .args .b .anchors + c .args .b .spans
+  μ-long : length (take (c .args .b .anchors + c .args .b .spans) (c .args .t3)) ≡ c .args .b .anchors + c .args .b .spans
   μ-long = length-take-le _ _ μ-room
 
 abbrev start : tie.After-times-of → tie.Start
-start c = c .before .before .before .before .before
+start c = c .before .before .before
 
 times-room : (c : tie.After-times-of) → start c .args .b .words ≤ length (c .times-of .result .times)
 times-room c = let e : length (c .times-of .result .times) ≡ 32 = search needs in omega (arith, start c .pre .0 .words)
@@ -43,26 +43,26 @@ written-spec =
     tie.close
     (tie.spec
     (λ c. search needs)  -- add-m
-    (λ c. x-room (c .before .before .before))  -- array-share-prefix-x
-    (λ c. sym (x-long (c .before .before .before .before)))  -- slice-aggregate-times-of
-    (λ c κs. let s = c .before .before .before .before in omega (arith, x-long s, s .pre .0 .words))  -- times-of-requires
+    (λ c. x-room (c .before))  -- array-share-prefix-x
+    (λ c. sym (x-long (c .before .before)))  -- slice-aggregate-times-of
+    (λ c κs. let s = c .before .before in omega (arith, x-long s, s .pre .0 .words))  -- times-of-requires
     (λ c κs. search needs)  -- refused-requires
     (λ c.
     let t = c .before .before in
     let s = start t in
-    times-off (s .pre .0) (s .pre .1) (s .args .s) (x-room s) (μ-room s) (t .times-of .ensures) (c .before .if1 .left) (c .refused .ensures))  -- returns
+    times-off (s .pre .0) (s .pre .1) (s .args .t2) (s .args .t3) (s .args .passes) (s .args .raise) (x-room s) (μ-room s) (t .times-of .ensures) (c .before .if1 .left) (c .refused .ensures))  -- returns
     (λ c. times-room (c .before .before))  -- array-share-prefix-times
     (λ c. sym (length-take-le _ _ (times-room (c .before .before .before))))  -- slice-aggregate-bounded
     (λ c κs.
     let t = c .before .before .before in
     let s = start t in
-    times-planned (s .pre .0) (s .pre .1) (s .args .s) (x-room s) (μ-room s) (t .times-of .ensures) (c .before .before .if1 .taken)
+    times-planned (s .pre .0) (s .pre .1) (s .args .t2) (s .args .t3) (s .args .passes) (s .args .raise) (x-room s) (μ-room s) (t .times-of .ensures) (c .before .before .if1 .taken)
     (length-take-le _ _ (times-room t)))  -- bounded-requires
     (λ c κs. search needs)  -- refused-requires-2
     (λ c.
     let t = c .before .before .before .before .before .before in
     let s = start t in
-    times-break (s .pre .0) (s .pre .1) (s .args .s) (x-room s) (μ-room s) (t .times-of .ensures) (c .before .before .before .before .before .if1 .taken)
+    times-break (s .pre .0) (s .pre .1) (s .args .t2) (s .args .t3) (s .args .passes) (s .args .raise) (x-room s) (μ-room s) (t .times-of .ensures) (c .before .before .before .before .before .if1 .taken)
     (sym (c .before .before .bounded .ensures) ∙ c .before .if2 .left) (c .refused2 .ensures))  -- returns-2
     (λ c. μ-room (start (c .before .before .before .before .before)))  -- array-share-prefix-multipliers
     (λ c. sym (μ-long (start (c .before .before .before .before .before .before))))  -- slice-aggregate-prices-of
@@ -74,11 +74,11 @@ written-spec =
       s .pre .0,
       (
         s .pre .1,
-        times-priced (s .pre .0) (s .pre .1) (s .args .s) (x-room s) (μ-room s) (timed c .times-of .ensures) (on c) (within c) (c .prices-of .ensures),
+        times-priced (s .pre .0) (s .pre .1) (s .args .t2) (s .args .t3) (s .args .passes) (s .args .raise) (x-room s) (μ-room s) (timed c .times-of .ensures) (on c) (within c) (c .prices-of .ensures),
       ),
     ))  -- with-gap-requires
     (λ c.
     let p = c .before in
     let s = start (timed p) in
-    times-answer (s .pre .0) (s .pre .1) (s .args .s) (x-room s) (μ-room s) (timed p .times-of .ensures) (on p) (within p) (p .prices-of .ensures)
+    times-answer (s .pre .0) (s .pre .1) (s .args .t2) (s .args .t3) (s .args .passes) (s .args .raise) (x-room s) (μ-room s) (timed p .times-of .ensures) (on p) (within p) (p .prices-of .ensures)
     (c .with-gap .ensures)))  -- returns-3
