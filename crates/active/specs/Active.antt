@@ -1,21 +1,13 @@
--- qp.rs, `solve_piecewise_in_units`: passes from the start until one of them ends it or the budget is spent.
+-- qp.rs, `solve_piecewise_in_units`: passes, until one of them ends it or the budget is spent.
 use mathlib.Core.Path.{_≡_}
 use mathlib.Core.Bool.{Bool, true, false}
 use mathlib.Core.List.{List}
 use Prim.Native.Nat.{ℕ, _+_, _*_}
-use lib.ListN.{take, replicate}
 use lib.Ieee.{Float}
-use Rattle.folds.specs.Fold.{over}
 use Rattle.folds.specs.Run.{Pass, more, done, run}
-use Rattle.sizes.specs.Sizes as Sizes
-use Rattle.arith.specs.Float.{f0}
-use Rattle.arith.specs.Scalar.{max}
-use Rattle.vector.specs.Vector.{amax, filled}
 use Rattle.factoring.specs.Kept.{new}
 use Rattle.factoring.specs.declared.Factoring.{Factoring}
-use Rattle.segments.specs.Start.{allFixed, allHeld, allPlaced, first, slopeAmax}
 use Rattle.segments.specs.declared.Segments.{Segments}
-use Rattle.blocking.specs.declared.Released.the-variants.{NoOne}
 use Rattle.iterate.specs.Problem.{Problem, problem}
 use Rattle.iterate.specs.Iterate as Result
 use Rattle.iterate.specs.Iterate.{Result, passedOf}
@@ -54,23 +46,7 @@ abbrev pub Ends : Passed → (passes : ℕ) → Declared.Answer → Type 0
 Ends passed passes r =
     (n m : ℕ) (f : Factoring) (l : List Float) → counted passes (beside f l (passedOf n m passed)) ≡ done (answerOf n m r)
 
--- ---- where the passes start: the start held to its range, each variable's first state, no variable refused or released
-unfoldable pub started : (n : ℕ) (segments : List Segments) (start : List Float) → Iterate
-started n segments start =
-    let x = over (allHeld n segments start) (replicate Sizes.variables f0) in
-    record {
-      board =
-          record {
-            x = x;
-            state = over (allPlaced n segments (take n x)) (replicate Sizes.variables first);
-            refused = replicate Sizes.variables false;
-          };
-      released = NoOne;
-      freed = false;
-      «freed_at» = replicate Sizes.variables f0;
-    }
-
--- `for _ in 0..100 + 20 * n`
+-- ---- the run: `for _ in 0..100 + 20 * n`
 abbrev pub budget : ℕ → ℕ
 budget n = 100 + 20 * n
 
@@ -82,9 +58,3 @@ spent made s = notConverged
 unfoldable pub passes : Problem → (segments : List Segments) (fixed : List Bool) (qAmax linear : Float) (i : Iterate) (l : List Float) → Answer
 passes (problem originals n m q c e b) segments fixed qAmax linear i l =
     run (step (problem originals n m q c e b) segments fixed qAmax linear) spent (budget n) 0 (more (state i new l))
-
--- ---- `solve_piecewise_in_units`
-unfoldable pub solvePiecewiseInUnits : Problem → (segments : List Segments) (start : List Float) → Answer
-solvePiecewiseInUnits (problem originals n m q c e b) segments start =
-    passes (problem originals n m q c e b) segments (allFixed n segments) (amax (n * n) q) (max (amax n c) (slopeAmax n segments))
-    (started n segments start) (filled (originals * originals) f0)

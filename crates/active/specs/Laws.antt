@@ -1,9 +1,8 @@
--- Laws of the definitions: what each verdict answers, what a pass gives, what the start keeps, what the calls leave, put together, how many passes
--- are made, and how long an answer is.
+-- Laws of the definitions: what each verdict answers, what a pass gives, how many passes are made, and how long an answer is.
 use mathlib.Core.Path.{_≡_, refl, sym, subst, _∙_}
 use mathlib.Core.Bool.{Bool, true, false}
 use mathlib.Core.List.{List}
-use Prim.Native.Nat.{ℕ, zero, suc, _+_, _*_, _<_, _≤_}
+use Prim.Native.Nat.{ℕ, zero, suc, _+_, _<_, _≤_}
 use native.Mathlib.Omega.{arith}
 use lib.ListN.{length, take}
 use lib.Ieee.{Float}
@@ -11,18 +10,12 @@ use lib.Seq.{length-take-le}
 use Rattle.folds.specs.Fold.{false-true}
 use Rattle.folds.specs.Run as Run
 use Rattle.folds.specs.Run.{Pass, more, done, run}
-use Rattle.arith.specs.Scalar.{max}
-use Rattle.arith.specs.Float.{f0}
-use Rattle.vector.specs.Vector.{amax, filled}
 use Rattle.factoring.specs.declared.Factoring.{Factoring}
 use Rattle.factoring.specs.Kept.{new}
-use Rattle.segments.specs.Segments.{AllCut}
-use Rattle.segments.specs.Start.{allFixed, slopeAmax}
-use Rattle.segments.specs.Laws.{all-placed}
 use Rattle.segments.specs.declared.Segments.{Segments}
 use Rattle.iterate.specs.Problem.{Problem, problem}
 use Rattle.iterate.specs.Iterate as Result
-use Rattle.iterate.specs.Iterate.{Result, passedOf, Kept}
+use Rattle.iterate.specs.Iterate.{Result, passedOf}
 use Rattle.iterate.specs.Laws.{passed-more, passed-optimal, passed-nonFinite, passed-singular, passed-unbounded, passed-notConverged}
 use Rattle.iterate.specs.declared.Iterate.{Iterate}
 use Rattle.iterate.specs.declared.Ending.{Ending}
@@ -35,7 +28,7 @@ use Rattle.active.specs.declared.Verdict.{Verdict}
 use Rattle.active.specs.declared.Verdict.the-variants.{Optimal, NonFiniteCovariance, SingularCovariance, Unbounded, NotConverged}
 use Rattle.active.specs.declared.Answer as Declared
 use Rattle.active.specs.Answer.{Answer, optimal, nonFinite, singular, unbounded, notConverged, answer, answerOf}
-use Rattle.active.specs.Active.{counted, step, goesOn, Ends, started, budget, spent, passes, solvePiecewiseInUnits}
+use Rattle.active.specs.Active.{counted, step, goesOn, Ends, budget, spent, passes}
 
 module _ (x multipliers : List Float) (passes : ℕ) where
   pub answer-optimal : answer Optimal x multipliers passes ≡ optimal x multipliers passes
@@ -123,20 +116,6 @@ module _ (p : Passed) (passes : ℕ) where
     unfolding counted
     ends-notConverged e v n m f l = rw (passed-notConverged n m p e, beside-done, answerOf-notConverged n m r v)
 
--- ---- where the passes start
-pub started-kept : (n : ℕ) (segments : List Segments) (start : List Float) → AllCut n segments → Kept n segments (started n segments start)
-unfolding started
-started-kept n segments start cut = record { placed = all-placed n segments _ _ _ cut refl }
-
--- ---- what the calls leave, put together
-pub units-from : {r : Answer} {fixed : List Bool} {qAmax linear cAmax slopes : Float} {i : Iterate} {l : List Float} (originals n m : ℕ) (q c e b : List Float)
-    (segments : List Segments) (start : List Float) → fixed ≡ allFixed n segments → qAmax ≡ amax (n * n) q → cAmax ≡ amax n c →
-    slopes ≡ slopeAmax n segments → linear ≡ max cAmax slopes → i ≡ started n segments start → l ≡ filled (originals * originals) f0 →
-    r ≡ passes (problem originals n m q c e b) segments fixed qAmax linear i l →
-    r ≡ solvePiecewiseInUnits (problem originals n m q c e b) segments start
-unfolding solvePiecewiseInUnits
-units-from originals n m q c e b segments start f g h k l s z r = r ∙ rw (s, z, l, h, k, g, f)
-
 -- ---- the number of passes is from 1 to the budget
 abbrev pub Within : (budget : ℕ) → Answer → Type 0
 Within budget (optimal x multipliers passes) = (1 ≤ passes) × (passes ≤ budget)
@@ -165,12 +144,11 @@ module _ (p : Problem) (segments : List Segments) (fixed : List Bool) (qAmax lin
       run-within left (made + 1) (counted (made + 1) (pass p segments fixed qAmax linear s)) (omega arith)
       (counted-within made (pass p segments fixed qAmax linear s) (omega arith))
 
-pub solve-within : (originals n m : ℕ) (q c e b : List Float) (segments : List Segments) (start : List Float) →
-    Within (budget n) (solvePiecewiseInUnits (problem originals n m q c e b) segments start)
-unfolding solvePiecewiseInUnits passes Run.Kept
-solve-within originals n m q c e b segments start =
-    run-within (problem originals n m q c e b) segments _ _ _ (budget n) (budget n) 0
-    (more (state (started n segments start) new (filled (originals * originals) f0))) (omega arith) tt
+pub passes-within : (originals n m : ℕ) (q c e b : List Float) (segments : List Segments) (fixed : List Bool) (qAmax linear : Float) (i : Iterate)
+    (l : List Float) → Within (budget n) (passes (problem originals n m q c e b) segments fixed qAmax linear i l)
+unfolding passes Run.Kept
+passes-within originals n m q c e b segments fixed qAmax linear i l =
+    run-within (problem originals n m q c e b) segments fixed qAmax linear (budget n) (budget n) 0 (more (state i new l)) (omega arith) tt
 
 -- ---- an optimal answer has x's n entries and m multipliers
 abbrev pub Filled : (n m : ℕ) → Answer → Type 0

@@ -1,5 +1,5 @@
-// qp.rs, `solve_piecewise_in_units`: the primal active-set method on a problem in `Units`. Q is n by n, E is n by m; the variables from `originals`
-// on are slacks, each with one of the last columns of E.
+// qp.rs, `solve_piecewise_in_units`: the passes of the primal active-set method on a problem in `Units`, counted. Q is n by n, E is n by m; the
+// variables from `originals` on are slacks, each with one of the last columns of E.
 ghost use mathlib.Core.Path.{_≡_};
 ghost use mathlib.Core.Bool.{false};
 ghost use Prim.Native.Nat.{_≤_, _*_};
@@ -12,8 +12,6 @@ ghost use Rattle.iterate.specs.Problem.{problem, Shaped, Room};
 ghost use Rattle.iterate.specs.Iterate.{Kept};
 ghost use Rattle.active.specs.Answer.{answerOf};
 ghost use Rattle.active.specs.Active as Definition;
-use blocking::Board;
-use blocking::Released;
 use factoring::Factoring;
 use iterate::Ending;
 use iterate::Iterate;
@@ -44,26 +42,6 @@ pub fn refused(verdict: Verdict) -> Answer
         x: [0.0; sizes::VARIABLES],
         multipliers: [0.0; sizes::COLUMNS],
         passes: 0,
-    }
-}
-
-fn started(segments: [Segments; sizes::VARIABLES], n: usize, start: &[f64]) -> Iterate
-    requires { ⌜ (n ≤ Sizes.variables) × (n ≤ length (now start)) × AllCut n segments ⌝ }
-    ensures { λ r. ⌜ r ≡ Definition.started n segments (now (start .entry)) ⌝ }
-{
-    let x = segments::all_held(segments, n, start);
-    let state = segments::all_placed(segments, n, &x[..n]);
-    let board = Board {
-        x: x,
-        state: state,
-        refused: [false; sizes::VARIABLES],
-    };
-    let released = Released::NoOne;
-    Iterate {
-        board: board,
-        released: released,
-        freed: false,
-        freed_at: [0.0; sizes::VARIABLES],
     }
 }
 
@@ -107,7 +85,7 @@ fn answered(passed: Passed, passes: usize) -> Answer
 
 // The passes from `iterate` on, until one of them ends or the budget is spent. The slices from room on are work memory, but l, which holds the
 // kept factor.
-fn passes(
+pub fn passes(
     iterate: Iterate,
     segments: [Segments; sizes::VARIABLES],
     fixed: &[bool],
@@ -188,73 +166,4 @@ fn passes(
         }
     }
     refused(Verdict::NotConverged)
-}
-
-pub fn solve_piecewise_in_units(
-    q: &[f64],
-    c: &[f64],
-    e: &[f64],
-    b: &[f64],
-    n: usize,
-    m: usize,
-    originals: usize,
-    segments: [Segments; sizes::VARIABLES],
-    start: &[f64],
-    room: &mut [f64],
-    q_free: &mut [f64],
-    e_free: &mut [f64],
-    gram: &mut [f64],
-    ks: &mut [f64],
-    es: &mut [f64],
-    left: &mut [f64],
-    coefficients: &mut [f64],
-    range: &mut [f64],
-    qq: &mut [f64],
-    null: &mut [f64],
-    h: &mut [f64],
-    vectors: &mut [f64],
-    l: &mut [f64],
-) -> Answer
-    requires { ⌜ Shaped originals n m (now q) (now c) (now e) (now b)
-        × AllCut n segments
-        × (n ≤ length (now start))
-        × Room originals n m (now room) (now «q_free») (now «e_free») (now gram) (now ks) (now es) (now left) (now coefficients) (now range)
-        (now qq) (now null) (now h) (now vectors)
-        × (now l ≡ filled (originals * originals) f0) ⌝ }
-    ensures { λ r. ⌜ answerOf n m r
-        ≡ Definition.solvePiecewiseInUnits (problem originals n m (now (q .entry)) (now (c .entry)) (now (e .entry)) (now (b .entry))) segments
-        (now (start .entry)) ⌝ }
-{
-    let fixed = segments::all_fixed(segments, n);
-    let q_amax = vector::amax(q, n * n);
-    let linear = arith::max(vector::amax(c, n), segments::slope_amax(segments, n));
-    let iterate = started(segments, n, start);
-    passes(
-        iterate,
-        segments,
-        &fixed[..n],
-        q,
-        c,
-        e,
-        b,
-        n,
-        m,
-        originals,
-        q_amax,
-        linear,
-        room,
-        q_free,
-        e_free,
-        gram,
-        ks,
-        es,
-        left,
-        coefficients,
-        range,
-        qq,
-        null,
-        h,
-        vectors,
-        l,
-    )
 }

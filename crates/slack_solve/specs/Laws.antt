@@ -11,9 +11,10 @@ use Rattle.slacks.specs.Slacks.{withSlacksQ, withSlacksE, withZeros, scalesWith
 use Rattle.iterate.specs.Problem.{problem}
 use Rattle.active.specs.Answer as Engine
 use Rattle.active.specs.Answer.{optimal, nonFinite, singular, unbounded, notConverged}
-use Rattle.active.specs.Active.{budget, solvePiecewiseInUnits}
-use Rattle.active.specs.Laws as Active
+use Rattle.active.specs.Active.{budget}
 use Rattle.active.specs.Laws.{Filled, Within}
+use Rattle.in_units.specs.InUnits.{solvePiecewiseInUnits}
+use Rattle.in_units.specs.Laws as InUnits
 use Rattle.quadratic.specs.Quadratic.{quadratic}
 use Rattle.slack_solve.specs.SlackSolve.{restored, original, solveScaled, solveWithSlacks, solve}
 
@@ -69,4 +70,4 @@ module _ (n m r : ℕ) (q c e b lower upper a rowLower rowUpper at slopes start 
 
   pub solve-within : Within (budget (n + r)) (solve (quadratic n m r q c e b lower upper a rowLower rowUpper at slopes start))
   unfolding solve solveWithSlacks solveScaled
-  solve-within = original-within n m r e b a rowLower rowUpper _ _ (budget (n + r)) _ (Active.solve-within n (n + r) (m + r) _ _ _ _ _ _)
+  solve-within = original-within n m r e b a rowLower rowUpper _ _ (budget (n + r)) _ (InUnits.solve-within n (n + r) (m + r) _ _ _ _ _ _)

@@ -1,3 +1,3 @@
 pub mod SlackSolve
-pub mod Room
+pub mod Holds
 pub mod Laws

@@ -11,7 +11,7 @@ use Rattle.slacks.specs.Limits.{meetsRows}
 use Rattle.iterate.specs.Problem.{problem}
 use Rattle.active.specs.Answer as Engine
 use Rattle.active.specs.Answer.{optimal, nonFinite, singular, unbounded, notConverged}
-use Rattle.active.specs.Active.{solvePiecewiseInUnits}
+use Rattle.in_units.specs.InUnits.{solvePiecewiseInUnits}
 use Rattle.quadratic.specs.Quadratic.{Quadratic, quadratic}
 
 -- ---- back in the units of the caller

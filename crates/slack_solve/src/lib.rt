@@ -3,41 +3,22 @@ ghost use mathlib.Core.Path.{_≡_};
 ghost use Prim.Native.Nat.{_≤_, _+_, _*_};
 ghost use lib.ListN.{length, take};
 ghost use Rattle.sizes.specs.Sizes as Sizes;
-ghost use Rattle.segments.specs.Segments.{AllCut};
-ghost use Rattle.iterate.specs.Problem.{Shaped, problem};
 ghost use Rattle.active.specs.Answer.{answer, answerOf};
-ghost use Rattle.active.specs.Active.{solvePiecewiseInUnits};
 ghost use Rattle.quadratic.specs.Quadratic.{quadratic};
 ghost use Rattle.quadratic.specs.Holds.{Holds};
+ghost use Rattle.in_units.specs.Room.{few};
 ghost use Rattle.slack_solve.specs.SlackSolve as Definition;
-ghost use Rattle.slack_solve.specs.Room.{few, Restores};
+ghost use Rattle.slack_solve.specs.Holds.{Restores};
 use active::Answer;
 use active::Verdict;
-use segments::Segments;
 
-// The originals, and the rows, of a small problem.
-const FEW: usize = 8;
-
-// The entries of a matrix of work memory, which has a row for each variable with the slacks (ALL) or for each original (FREE), and as many
-// columns, or a column for each column of E with the slacks.
+// The entries of a matrix of work memory, which has a row for each variable with the slacks and as many columns, or a column for each column of E
+// with the slacks; and of either in a small problem.
 const ALL_SQUARE: usize = sizes::VARIABLES * sizes::VARIABLES;
 
 const ALL_TALL: usize = sizes::VARIABLES * sizes::COLUMNS;
 
-const FREE_ROWS: usize = sizes::ORIGINALS * sizes::VARIABLES;
-
-const FREE_SQUARE: usize = sizes::ORIGINALS * sizes::ORIGINALS;
-
-const FREE_TALL: usize = sizes::ORIGINALS * sizes::COLUMNS;
-
-const GRAM: usize = sizes::COLUMNS * sizes::COLUMNS;
-
-// The same of a small problem, of 16 variables and 16 columns.
-const SMALL_ALL: usize = (FEW + FEW) * (FEW + FEW);
-
-const SMALL_FREE: usize = FEW * (FEW + FEW);
-
-const SMALL_SQUARE: usize = FEW * FEW;
+const SMALL_ALL: usize = (in_units::FEW + in_units::FEW) * (in_units::FEW + in_units::FEW);
 
 // Whether x meets the constraints and the rows.
 fn feasible(
@@ -152,161 +133,6 @@ fn original(
     }
 }
 
-// `solve_piecewise_in_units` in little memory: what a call clears would otherwise cost more than a small solve.
-fn engine_small(
-    q: &[f64],
-    c: &[f64],
-    e: &[f64],
-    b: &[f64],
-    segments: [Segments; sizes::VARIABLES],
-    start: &[f64],
-    n: usize,
-    m: usize,
-    r: usize,
-) -> Answer
-    requires { ⌜ Shaped n (n + r) (m + r) (now q) (now c) (now e) (now b)
-        × AllCut (n + r) segments
-        × (n + r ≤ length (now start))
-        × (m ≤ Sizes.equalities)
-        × (r ≤ few)
-        × (n ≤ few) ⌝ }
-    ensures { λ s. ⌜ answerOf (n + r) (m + r) s
-        ≡ solvePiecewiseInUnits (problem n (n + r) (m + r) (now (q .entry)) (now (c .entry)) (now (e .entry)) (now (b .entry))) segments
-        (now (start .entry)) ⌝ }
-{
-    let mut room = [0.0; SMALL_FREE];
-    let mut q_free = [0.0; SMALL_SQUARE];
-    let mut e_free = [0.0; SMALL_FREE];
-    let mut gram = [0.0; SMALL_ALL];
-    let mut ks = [0.0; SMALL_SQUARE];
-    let mut es = [0.0; SMALL_FREE];
-    let mut left = [0.0; SMALL_FREE];
-    let mut coefficients = [0.0; SMALL_FREE];
-    let mut range = [0.0; SMALL_FREE];
-    let mut qq = [0.0; SMALL_SQUARE];
-    let mut null = [0.0; SMALL_SQUARE];
-    let mut h = [0.0; SMALL_SQUARE];
-    let mut vectors = [0.0; SMALL_SQUARE];
-    let mut l = [0.0; SMALL_SQUARE];
-    let square = n * n;
-    active::solve_piecewise_in_units(
-        q,
-        c,
-        e,
-        b,
-        n + r,
-        m + r,
-        n,
-        segments,
-        start,
-        &mut room,
-        &mut q_free,
-        &mut e_free,
-        &mut gram,
-        &mut ks,
-        &mut es,
-        &mut left,
-        &mut coefficients,
-        &mut range,
-        &mut qq,
-        &mut null,
-        &mut h,
-        &mut vectors,
-        &mut l[..square],
-    )
-}
-
-fn engine_large(
-    q: &[f64],
-    c: &[f64],
-    e: &[f64],
-    b: &[f64],
-    segments: [Segments; sizes::VARIABLES],
-    start: &[f64],
-    n: usize,
-    m: usize,
-    r: usize,
-) -> Answer
-    requires { ⌜ Shaped n (n + r) (m + r) (now q) (now c) (now e) (now b)
-        × AllCut (n + r) segments
-        × (n + r ≤ length (now start))
-        × (m ≤ Sizes.equalities)
-        × (r ≤ Sizes.rows) ⌝ }
-    ensures { λ s. ⌜ answerOf (n + r) (m + r) s
-        ≡ solvePiecewiseInUnits (problem n (n + r) (m + r) (now (q .entry)) (now (c .entry)) (now (e .entry)) (now (b .entry))) segments
-        (now (start .entry)) ⌝ }
-{
-    let mut room = [0.0; FREE_ROWS];
-    let mut q_free = [0.0; FREE_SQUARE];
-    let mut e_free = [0.0; FREE_TALL];
-    let mut gram = [0.0; GRAM];
-    let mut ks = [0.0; FREE_SQUARE];
-    let mut es = [0.0; FREE_TALL];
-    let mut left = [0.0; FREE_TALL];
-    let mut coefficients = [0.0; FREE_TALL];
-    let mut range = [0.0; FREE_TALL];
-    let mut qq = [0.0; FREE_SQUARE];
-    let mut null = [0.0; FREE_SQUARE];
-    let mut h = [0.0; FREE_SQUARE];
-    let mut vectors = [0.0; FREE_SQUARE];
-    let mut l = [0.0; FREE_SQUARE];
-    let square = n * n;
-    active::solve_piecewise_in_units(
-        q,
-        c,
-        e,
-        b,
-        n + r,
-        m + r,
-        n,
-        segments,
-        start,
-        &mut room,
-        &mut q_free,
-        &mut e_free,
-        &mut gram,
-        &mut ks,
-        &mut es,
-        &mut left,
-        &mut coefficients,
-        &mut range,
-        &mut qq,
-        &mut null,
-        &mut h,
-        &mut vectors,
-        &mut l[..square],
-    )
-}
-
-// The same in work memory of its size.
-fn engine_sized(
-    q: &[f64],
-    c: &[f64],
-    e: &[f64],
-    b: &[f64],
-    segments: [Segments; sizes::VARIABLES],
-    start: &[f64],
-    n: usize,
-    m: usize,
-    r: usize,
-) -> Answer
-    requires { ⌜ Shaped n (n + r) (m + r) (now q) (now c) (now e) (now b)
-        × AllCut (n + r) segments
-        × (n + r ≤ length (now start))
-        × (m ≤ Sizes.equalities)
-        × (r ≤ Sizes.rows) ⌝ }
-    ensures { λ s. ⌜ answerOf (n + r) (m + r) s
-        ≡ solvePiecewiseInUnits (problem n (n + r) (m + r) (now (q .entry)) (now (c .entry)) (now (e .entry)) (now (b .entry))) segments
-        (now (start .entry)) ⌝ }
-{
-    if n <= FEW {
-        if r <= FEW {
-            return engine_small(q, c, e, b, segments, start, n, m, r);
-        }
-    }
-    engine_large(q, c, e, b, segments, start, n, m, r)
-}
-
 // The solve of Q and E with the slacks, which are given in units, with their scales.
 fn solve_scaled(
     uq: &[f64],
@@ -356,7 +182,7 @@ fn solve_scaled(
         r,
     );
     let first = slacks::slacks_start(start, a, scales, n, r);
-    engine_sized(uq, &uc[..v], ue, &ub[..w], segments, &first[..v], n, m, r)
+    in_units::engine_sized(uq, &uc[..v], ue, &ub[..w], segments, &first[..v], n, m, r)
 }
 
 // The solve of Q and E with the slacks, in `Units`, and back. The slices uq and ue are work memory.
@@ -637,8 +463,8 @@ pub fn solve_shaped(
         (now (upper .entry)) (now (a .entry)) (now («row_lower» .entry)) (now («row_upper» .entry)) (now (at .entry)) (now (slopes .entry))
         (now (start .entry))) ⌝ }
 {
-    if n <= FEW {
-        if r <= FEW {
+    if n <= in_units::FEW {
+        if r <= in_units::FEW {
             return solve_small(
                 q,
                 c,

@@ -2,9 +2,9 @@ use mathlib.Core.Path.{sym}
 use borrow.Author.Needs.{needs}
 use native.Mathlib.Omega.{arith}
 use lib.Seq.{length-take-le}
-use Rattle.active.specs.Active.{started}
-use Rattle.active.proofs.started.Statement.{statement}
-use Rattle.active.proofs.started.Tie as tie
+use Rattle.in_units.specs.InUnits.{started}
+use Rattle.in_units.proofs.started.Statement.{statement}
+use Rattle.in_units.proofs.started.Tie as tie
 
 slice-aggregate-all-placed : tie.Need-slice-aggregate-all-placed
 slice-aggregate-all-placed c = sym (length-take-le _ _ (omega arith))

@@ -1,5 +1,5 @@
-use Rattle.slack_solve.proofs.engine_sized.Statement.{statement}
-use Rattle.slack_solve.proofs.engine_sized.Tie as tie
+use Rattle.in_units.proofs.engine_sized.Statement.{statement}
+use Rattle.in_units.proofs.engine_sized.Tie as tie
 
 pub engine-sized-spec : {M : Type 1} → statement M
 engine-sized-spec =

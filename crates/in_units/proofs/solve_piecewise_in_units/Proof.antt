@@ -5,9 +5,9 @@ use native.Mathlib.Nat.{le-refl}
 use lib.Seq.{length-take-le}
 use Rattle.vector.specs.Laws.{length-filled}
 use Rattle.segments.specs.Laws.{length-allFixed}
-use Rattle.active.specs.Laws.{started-kept, units-from}
-use Rattle.active.proofs.solve_piecewise_in_units.Statement.{statement}
-use Rattle.active.proofs.solve_piecewise_in_units.Tie as tie
+use Rattle.in_units.specs.Laws.{started-kept, units-from}
+use Rattle.in_units.proofs.solve_piecewise_in_units.Statement.{statement}
+use Rattle.in_units.proofs.solve_piecewise_in_units.Tie as tie
 
 -- the work memory that the passes give back, the passes, the calls before them, and the function's start
 abbrev qq-back : tie.After-slice-known28 → tie.After-slice-known24

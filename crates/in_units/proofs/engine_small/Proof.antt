@@ -1,11 +1,11 @@
-use Rattle.folds.specs.Kit.{_*_, _≤_, sym, arith, needs}
+use Rattle.folds.specs.Kit.{_+_, _*_, _≤_, sym, arith, needs}
 use Rattle.folds.specs.Cell.{area}
 use lib.Seq.{length-take-le}
 use Rattle.sizes.specs.Sizes as Sizes
 use Rattle.vector.specs.Laws.{take-zeros}
-use Rattle.slack_solve.specs.Room.{room-of}
-use Rattle.slack_solve.proofs.engine_large.Statement.{statement}
-use Rattle.slack_solve.proofs.engine_large.Tie as tie
+use Rattle.in_units.specs.Room.{few, room-of}
+use Rattle.in_units.proofs.engine_small.Statement.{statement}
+use Rattle.in_units.proofs.engine_small.Tie as tie
 
 abbrev start : tie.After-vectors → tie.Start
 start c =
@@ -13,8 +13,8 @@ start c =
     s .before .before .before .before .before .before .before .before .before
 
 -- the factor of all originals fits
-square-fits : (c : tie.Start) → c .args .n * c .args .n ≤ Sizes.originals * Sizes.originals
-square-fits c = let p = c .pre in area (p .0 .few) (p .0 .few)
+square-fits : (c : tie.Start) → c .args .n * c .args .n ≤ few * few
+square-fits c = let p = c .pre in area (p .5) (p .5)
 
 solve-piecewise-in-units-requires : tie.Need-solve-piecewise-in-units-requires
 solve-piecewise-in-units-requires c κs =
@@ -23,14 +23,13 @@ solve-piecewise-in-units-requires c κs =
       p .0,
       p .1,
       p .2,
-      room-of {x = Sizes.originals} {y = Sizes.variables} {z = Sizes.columns} _ _ _ _ (p .0 .few)
-          (p .0 .variables) (omega arith) (omega arith) (omega arith)
+      room-of {x = few} {y = few + few} {z = Sizes.equalities + few} _ _ _ _ (p .5) (omega arith) (omega arith) (omega arith) (omega arith)
           (omega arith) (omega arith) (omega arith),
       take-zeros _ _ (square-fits s),
     )
 
-pub engine-large-spec : {M : Type 1} → statement M
-engine-large-spec =
+pub engine-small-spec : {M : Type 1} → statement M
+engine-small-spec =
     tie.close
     (tie.spec
     (λ c. omega (arith, square-fits (c .before .before .before .before .before)))  -- mul-square

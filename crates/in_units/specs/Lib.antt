@@ -1,0 +1,3 @@
+pub mod InUnits
+pub mod Room
+pub mod Laws
