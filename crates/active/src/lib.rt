@@ -5,8 +5,6 @@ ghost use mathlib.Core.Bool.{false};
 ghost use Prim.Native.Nat.{_≤_, _*_};
 ghost use lib.ListN.{length};
 ghost use Rattle.sizes.specs.Sizes as Sizes;
-ghost use Rattle.arith.specs.Float.{f0};
-ghost use Rattle.vector.specs.Vector.{filled};
 ghost use Rattle.segments.specs.Segments.{AllCut};
 ghost use Rattle.iterate.specs.Problem.{problem, Shaped, Room};
 ghost use Rattle.iterate.specs.Iterate.{Kept};

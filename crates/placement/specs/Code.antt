@@ -27,8 +27,8 @@ use Rattle.placement.specs.declared.Placement.{Placement}
 abbrev pub writtenOf : Block → (x μ : List Float) → (passes : ℕ) → (raise : Float) → Placed
 writtenOf b x μ passes raise = written (blockOf b) (take (b .words) x) (take (b .anchors + b .spans) μ) passes raise
 
-module _ {b : Block} (S : Sound b) (R : Ranged (blockOf b)) (x μ : List Float) (passes : ℕ) (raise : Float)
-    (x-room : b .words ≤ length x) (μ-room : b .anchors + b .spans ≤ length μ) where
+module _ {b : Block} (S : Sound b) (R : Ranged (blockOf b)) (x μ : List Float) (x-room : b .words ≤ length x)
+    (μ-room : b .anchors + b .spans ≤ length μ) where
   abbrev weights : List Float
   weights = take (b .words) x
 
@@ -42,12 +42,12 @@ module _ {b : Block} (S : Sound b) (R : Ranged (blockOf b)) (x μ : List Float) 
   μ-long = length-take-le _ _ μ-room ∙ sym (same-count S)
 
   module _ {t : Times} (T : TimesOf weights t) where
-    pub times-off : {p : Placement} → t .on ≡ false → Holds (refused 14) b p → Holds (writtenOf b x μ passes raise) b p
-    times-off e h =
+    pub times-off : {p : Placement} (passes : ℕ) (raise : Float) → t .on ≡ false → Holds (refused 14) b p → Holds (writtenOf b x μ passes raise) b p
+    times-off passes raise e h =
         record { is = out-of-range R _ _ passes raise x-long μ-long (sym (T .all-on) ∙ e) (h .is); of-block = h .of-block }
 
     module _ (on : t .on ≡ true) where
-      pub times-are : take (b .words) (t .times) ≡ timesOf weights
+      times-are : take (b .words) (t .times) ≡ timesOf weights
       times-are = ap (λ (k : ℕ). take k (t .times)) (sym (length-take-le _ _ x-room)) ∙ T .are on
 
       pub times-planned : length (take (b .words) (t .times)) ≡ b .words → Planned b (take (b .words) (t .times))
@@ -63,24 +63,23 @@ module _ {b : Block} (S : Sound b) (R : Ranged (blockOf b)) (x μ : List Float) 
       judged-is : {r : Bool} → bounded (blockOf b) (take (b .words) (t .times)) ≡ r → bounded (blockOf b) (timesOf weights) ≡ r
       judged-is e = ap (bounded (blockOf b)) (sym times-are) ∙ e
 
-      pub times-break : {p : Placement} → bounded (blockOf b) (take (b .words) (t .times)) ≡ false → Holds (refused 14) b p
-          → Holds (writtenOf b x μ passes raise) b p
-      times-break e h =
+      pub times-break : {p : Placement} (passes : ℕ) (raise : Float) → bounded (blockOf b) (take (b .words) (t .times)) ≡ false
+          → Holds (refused 14) b p → Holds (writtenOf b x μ passes raise) b p
+      times-break passes raise e h =
           record { is = not-bounded R _ _ passes raise x-long μ-long (judged-is e) (h .is); of-block = h .of-block }
 
-      module _ (e : bounded (blockOf b) (take (b .words) (t .times)) ≡ true) {ps : List ℤ} (P : PricesOf multipliers raise ps) where
+      module _ (e : bounded (blockOf b) (take (b .words) (t .times)) ≡ true) {raise : Float} {ps : List ℤ} (P : PricesOf multipliers raise ps) where
         prices-are : take (b .anchors + b .spans + 1) ps ≡ pricesOf multipliers raise
         prices-are = ap (λ (k : ℕ). take (k + 1) ps) (sym (length-take-le _ _ μ-room)) ∙ P .are
 
         pub times-priced : PlanAndPrices (blockOf b) (take (b .words) (t .times)) (take (b .anchors + b .spans + 1) ps)
         times-priced =
-            subst₂ (PlanAndPrices (blockOf b)) (sym times-are) (sym prices-are)
-            (plan-and-prices R _ _ passes raise x-long μ-long (judged-is e))
+            subst₂ (PlanAndPrices (blockOf b)) (sym times-are) (sym prices-are) (plan-and-prices R _ _ 0 raise x-long μ-long (judged-is e))
 
-        pub times-answer : {p : Placement}
+        pub times-answer : {p : Placement} {passes : ℕ}
             → Holds (answered (answerFor (blockOf b) (take (b .words) (t .times)) (take (b .anchors + b .spans + 1) ps) passes)) b p
             → Holds (writtenOf b x μ passes raise) b p
-        times-answer h =
+        times-answer {p} {passes} h =
             record {
               is =
                   is-answer R _ _ passes raise x-long μ-long (sym (T .all-on) ∙ on) (judged-is e)

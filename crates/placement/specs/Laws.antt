@@ -1,6 +1,6 @@
--- What is written by its cases, and what follows of an answer.
+-- What is written, by its cases.
 use mathlib.Core.Path.{_≡_, refl, sym, _∙_, ap}
-use mathlib.Core.Logic.{⊎-elim}
+use mathlib.Core.Logic.{_⊎_, inl, inr, ⊎-elim}
 use mathlib.Core.Bool.{Bool, true, false, true≢false}
 use mathlib.Core.List.{List}
 use Prim.Native.Nat.{ℕ, _+_, _≤_, _<_}
@@ -97,16 +97,16 @@ module _ {b : Block} (R : Ranged b) where
     is-answer a e q =
         pick-true _ _ (both-yes (all-finite x a) e) (pick-true _ _ (gap-fits R (plan-and-prices e)) q)
 
--- ---- what follows of an answer
-module _ (b : Block) (x : List Float) (times prices : List ℤ) (passes : ℕ) {a : Answer} where
-  pub judged-answer : judged b x times prices passes ≡ answered a → (bounded b times ≡ true) × (answerFor b times prices passes ≡ a)
-  unfolding judged pick
-  judged-answer e =
-      go (both (allFinite (length x) x) (bounded b times)) refl (fits64 (gap b times (pricesFrom b prices))) e
-    where
-      go : (t : Bool) → both (allFinite (length x) x) (bounded b times) ≡ t → (u : Bool)
-          → pick t (pick u (answered (answerFor b times prices passes)) (refused 15)) (refused 14) ≡ answered a
-          → (bounded b times ≡ true) × (answerFor b times prices passes ≡ a)
-      go true h true e = (both-true _ _ h .1, cc)
-      go true h false e = absurd (let z : _≡_ {A = ℕ} 0 1 = cc in omega arith)
-      go false h u e = absurd (let z : _≡_ {A = ℕ} 0 1 = cc in omega arith)
+    -- and no other way: an answer, within the bounds, or 14
+    pub written-by : ((bounded b times ≡ true) × (written b x multipliers passes raise ≡ answered (answerFor b times prices passes)))
+        ⊎ (written b x multipliers passes raise ≡ refused 14)
+    unfolding written judged
+    written-by = go (both (allFinite (length x) x) (bounded b times)) refl
+      where
+        go : (t : Bool) → both (allFinite (length x) x) (bounded b times) ≡ t
+            → ((bounded b times ≡ true) × (written b x multipliers passes raise ≡ answered (answerFor b times prices passes)))
+            ⊎ (written b x multipliers passes raise ≡ refused 14)
+        go true h =
+            let e = both-true _ _ h .1 in
+            inl (e, sym (pick-true _ _ h (pick-true _ _ (gap-fits R (plan-and-prices e)) refl)))
+        go false h = inr (sym (pick-false _ _ h refl))

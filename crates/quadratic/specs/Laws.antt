@@ -11,7 +11,7 @@ use Rattle.folds.specs.Fold.{pick-false, both-true, both-first, both-yes}
 use Rattle.sizes.specs.Sizes as Sizes
 use Rattle.vector.specs.Vector.{anyNan}
 use Rattle.quadratic.specs.Quadratic.{quadratic, sized, long, shaped, blank}
-use Rattle.quadratic.specs.Holds.{Holds, Shape}
+use Rattle.quadratic.specs.Holds.{Shape}
 
 -- ---- the tests of the sizes
 pub record Size (n m r q c e b a : ℕ) : Type 0 where

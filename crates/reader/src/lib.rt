@@ -1,11 +1,9 @@
 // Reads a block file. The definition is `read` of format's specs/Read.antt.
 ghost use mathlib.Core.Path.{_≡_};
 ghost use mathlib.Core.Bool.{true, false};
-ghost use Prim.Native.Nat.{_≤_};
 ghost use Rattle.format.specs.Read as Read;
-ghost use Rattle.format.specs.Structs.{blockOf, countsOf, readOf, Sound};
-ghost use Rattle.format.specs.Whole.{Whole};
-ghost use Rattle.block.specs.Ranges.{Ranged, maxPairs};
+ghost use Rattle.format.specs.Structs.{blockOf, readOf, Sound};
+ghost use Rattle.block.specs.Ranges.{Ranged};
 use format::Anchor;
 use format::Answer;
 use format::Block;

@@ -1,6 +1,6 @@
 -- The service by its cases, and what follows of an answer.
-use mathlib.Core.Path.{_≡_, refl, sym, _∙_, ap, subst}
-use mathlib.Core.Logic.{_⊎_, inl, inr}
+use mathlib.Core.Path.{_≡_, refl, sym, ap, subst}
+use mathlib.Core.Logic.{_⊎_, inl, inr, ⊎-elim}
 use mathlib.Core.Bool.{Bool, true, false}
 use mathlib.Core.List.{List}
 use Prim.Native.Nat.{ℕ, _+_, _≤_, _<_}
@@ -9,7 +9,7 @@ use lib.Dec.{leb}
 use lib.ListN.{length}
 use lib.Ieee.{Float}
 use borrow.Author.Tests.{le-leb, lt-leb, leb-true}
-use Rattle.folds.specs.Fold.{pick, pick-true, pick-false, pick-keep, pick-by, both-true}
+use Rattle.folds.specs.Fold.{pick, pick-true, pick-false, pick-keep}
 use Rattle.block.specs.Block.{Block}
 use Rattle.block.specs.Keeps.{bounded-true}
 use Rattle.block.specs.Ranges.{Ranged}
@@ -17,14 +17,13 @@ use Rattle.format.specs.Read.{Outcome, read}
 use Rattle.format.specs.InRange.{read-ranged}
 use Rattle.gap.specs.Prices.{priceCount}
 use Rattle.answer.specs.File.{Answer, fileSize}
-use Rattle.plan_check.specs.Laws.{gap-fits}
 use Rattle.cap.specs.Capped as Engine
 use Rattle.cap.specs.Capped.{Capped, optimal, engine}
 use Rattle.rounding.specs.Lists.{timesOf, pricesOf}
 use Rattle.block_solve.specs.Solve.{solveBlock}
 use Rattle.block_solve.specs.Laws.{solved-sized, engine-always, solved-bounded}
-use Rattle.placement.specs.Placed.{Placed, answered, refused, judged, written}
-use Rattle.placement.specs.Laws.{plan-and-prices, judged-answer}
+use Rattle.placement.specs.Placed.{Placed, answered, refused, answerFor, written}
+use Rattle.placement.specs.Laws.{plan-and-prices, written-by}
 use Rattle.service.specs.Place.{ofEngine, placeBlock, placeRead, place, numberOf}
 use Rattle.service.specs.Promise.{Answers}
 
@@ -70,14 +69,11 @@ Numbered p = let n = numberOf p in (n ≡ 0) ⊎ ((n ≡ 8) ⊎ ((n ≡ 11) ⊎ 
 module _ {b : Block} (R : Ranged b) where
   written-numbered : (x multipliers : List Float) (passes : ℕ) (raise : Float) → solveBlock b ≡ engine (optimal x multipliers passes raise)
       → Numbered (written b x multipliers passes raise)
-  unfolding written judged numberOf
+  unfolding numberOf
   written-numbered x multipliers passes raise s =
       let z = solved-sized b x multipliers passes raise s in
-      pick-by Numbered _
-      (λ t.
-      let P = plan-and-prices R x multipliers passes raise (z .x-long) (z .multipliers-long) (both-true _ _ t .1) in
-      subst Numbered (pick-true _ _ (gap-fits R P) refl) (inl refl))
-      (λ t. inr (inr (inr (inr refl))))
+      ⊎-elim (λ e. subst Numbered (sym (e .1)) (inl refl)) (λ e. subst Numbered (sym e) (inr (inr (inr (inr refl)))))
+      (written-by R x multipliers passes raise (z .x-long) (z .multipliers-long))
 
   engine-numbered : (o : Capped) → solveBlock b ≡ engine o → Numbered (ofEngine b (engine o))
   unfolding ofEngine numberOf Engine.number
@@ -100,21 +96,23 @@ place-numbered s room b e = subst Numbered (block-placed s room b e) (block-numb
 module _ {b : Block} (R : Ranged b) {a : Answer} where
   written-answer : (x multipliers : List Float) (passes : ℕ) (raise : Float) → solveBlock b ≡ engine (optimal x multipliers passes raise)
       → written b x multipliers passes raise ≡ answered a → Answers b a
-  unfolding written
   written-answer x multipliers passes raise s e =
       let z = solved-sized b x multipliers passes raise s in
-      let j = judged-answer b x (timesOf x) (pricesOf multipliers raise) passes e in
-      subst (Answers b) (j .1)
+      ⊎-elim
+      (λ w.
+      subst (Answers b) (cc)
       (record {
-        ranged = plan-and-prices R x multipliers passes raise (z .x-long) (z .multipliers-long) (j .0);
-        bounded = bounded-true b (timesOf x) (j .0);
+        ranged = plan-and-prices R x multipliers passes raise (z .x-long) (z .multipliers-long) (w .0);
+        bounded = bounded-true b (timesOf x) (w .0);
         gap-is = refl;
         x = x;
         multipliers = multipliers;
         raise = raise;
         solved = s;
         passes-few = z .passes-few;
-      })
+      }))
+      (λ w. absurd (let y : _≡_ {A = ℕ} 0 1 = cc in omega arith))
+      (written-by R x multipliers passes raise (z .x-long) (z .multipliers-long))
 
   engine-answer : (e : Engine.Answer) → solveBlock b ≡ e → ofEngine b e ≡ answered a → Answers b a
   unfolding ofEngine

@@ -149,10 +149,14 @@ passes-spec =
     (λ c. let k = c .before .before .before .before in left-back k .before .before .before .before .before .ks .given ∙ turn (gave k) .before .loop .inv .5)
     (λ c. let k = c .before .before .before .before in left-back k .before .before .before .es .given ∙ turn (gave k) .before .loop .inv .6)
     (λ c. let k = c .before .before .before .before in left-back k .before .left .given ∙ turn (gave k) .before .loop .inv .7)
-    (λ c. let k = c .before .before .before .before in qq-back k .before .before .before .before .before .coefficients .given ∙ turn (gave k) .before .loop .inv .8)
+    (λ c.
+    let k = c .before .before .before .before in
+    qq-back k .before .before .before .before .before .coefficients .given ∙ turn (gave k) .before .loop .inv .8)
     (λ c. let k = c .before .before .before .before in qq-back k .before .before .before .range .given ∙ turn (gave k) .before .loop .inv .9)
     (λ c. let k = c .before .before .before .before in qq-back k .before .qq .given ∙ turn (gave k) .before .loop .inv .10)
-    (λ c. let k = c .before .before .before .before in k .before .before .before .before .before .before .before .null .given ∙ turn (gave k) .before .loop .inv .11)
+    (λ c.
+    let k = c .before .before .before .before in
+    k .before .before .before .before .before .before .before .null .given ∙ turn (gave k) .before .loop .inv .11)
     (λ c. let k = c .before .before .before .before in k .before .before .before .before .before .h .given ∙ turn (gave k) .before .loop .inv .12)
     (λ c. let k = c .before .before .before .before in k .before .before .before .vectors .given ∙ turn (gave k) .before .loop .inv .13)
     (λ c. let k = c .before .before .before .before in k .before .l .given ∙ turn (gave k) .before .loop .inv .14)

@@ -127,7 +127,9 @@ refine-spec =
     (λ c. let d = c .before .before .before in omega (arith, start d .pre .0 .few, step-length d))  -- array-share-prefix-dx
     slice-aggregate-add-2  -- slice-aggregate-add-2
     add-requires  -- add-requires
-    (λ c. let s = start (c .before .before .before .before .before) in omega (arith, s .pre .0 .columns, multipliers-length s))  -- array-share-prefix-multipliers-2
+    (λ c.
+    let s = start (c .before .before .before .before .before) in
+    omega (arith, s .pre .0 .columns, multipliers-length s))  -- array-share-prefix-multipliers-2
     slice-aggregate-added  -- slice-aggregate-added
     (λ c. let d = c .before .before .before .before .before .before in omega (arith, start d .pre .0 .columns, step-length d))  -- array-share-prefix-dm
     slice-aggregate-added-2  -- slice-aggregate-added-2
