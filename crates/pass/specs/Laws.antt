@@ -1,5 +1,5 @@
 -- Laws of the definitions: the free variables, split at `originals`, are as the solve and the step ask, and what a function's calls give, put together.
-use mathlib.Core.Path.{_≡_, refl, _∙_}
+use mathlib.Core.Path.{_≡_, _∙_}
 use mathlib.Core.Bool.{Bool}
 use mathlib.Core.List.{List}
 use Prim.Native.Nat.{ℕ, _+_, _-_, _*_, _≤_}

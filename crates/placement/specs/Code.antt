@@ -44,7 +44,7 @@ module _ {b : Block} (S : Sound b) (R : Ranged (blockOf b)) (x μ : List Float) 
   module _ {t : Times} (T : TimesOf weights t) where
     pub times-off : {p : Placement} (passes : ℕ) (raise : Float) → t .on ≡ false → Holds (refused 14) b p → Holds (writtenOf b x μ passes raise) b p
     times-off passes raise e h =
-        record { is = out-of-range R _ _ passes raise x-long μ-long (sym (T .all-on) ∙ e) (h .is); of-block = h .of-block }
+        record { is = out-of-range R _ _ raise x-long μ-long passes (sym (T .all-on) ∙ e) (h .is); of-block = h .of-block }
 
     module _ (on : t .on ≡ true) where
       times-are : take (b .words) (t .times) ≡ timesOf weights
@@ -66,7 +66,7 @@ module _ {b : Block} (S : Sound b) (R : Ranged (blockOf b)) (x μ : List Float) 
       pub times-break : {p : Placement} (passes : ℕ) (raise : Float) → bounded (blockOf b) (take (b .words) (t .times)) ≡ false
           → Holds (refused 14) b p → Holds (writtenOf b x μ passes raise) b p
       times-break passes raise e h =
-          record { is = not-bounded R _ _ passes raise x-long μ-long (judged-is e) (h .is); of-block = h .of-block }
+          record { is = not-bounded R _ _ raise x-long μ-long passes (judged-is e) (h .is); of-block = h .of-block }
 
       module _ (e : bounded (blockOf b) (take (b .words) (t .times)) ≡ true) {raise : Float} {ps : List ℤ} (P : PricesOf multipliers raise ps) where
         prices-are : take (b .anchors + b .spans + 1) ps ≡ pricesOf multipliers raise
@@ -74,7 +74,7 @@ module _ {b : Block} (S : Sound b) (R : Ranged (blockOf b)) (x μ : List Float) 
 
         pub times-priced : PlanAndPrices (blockOf b) (take (b .words) (t .times)) (take (b .anchors + b .spans + 1) ps)
         times-priced =
-            subst₂ (PlanAndPrices (blockOf b)) (sym times-are) (sym prices-are) (plan-and-prices R _ _ 0 raise x-long μ-long (judged-is e))
+            subst₂ (PlanAndPrices (blockOf b)) (sym times-are) (sym prices-are) (plan-and-prices R _ _ raise x-long μ-long (judged-is e))
 
         pub times-answer : {p : Placement} {passes : ℕ}
             → Holds (answered (answerFor (blockOf b) (take (b .words) (t .times)) (take (b .anchors + b .spans + 1) ps) passes)) b p
@@ -82,7 +82,7 @@ module _ {b : Block} (S : Sound b) (R : Ranged (blockOf b)) (x μ : List Float) 
         times-answer {p} {passes} h =
             record {
               is =
-                  is-answer R _ _ passes raise x-long μ-long (sym (T .all-on) ∙ on) (judged-is e)
+                  is-answer R _ _ raise x-long μ-long passes (sym (T .all-on) ∙ on) (judged-is e)
                   (h .is ∙ ap₂ (λ (y z : List ℤ). answered (answerFor (blockOf b) y z passes)) times-are prices-are);
               of-block = h .of-block;
             }

@@ -9,7 +9,7 @@ use lib.ListN.{length}
 use lib.IntN.{ℤ, pos, natAbs}
 use lib.Signed.{_≤ℤ_}
 use lib.Ieee.{Float}
-use Rattle.folds.specs.Fold.{pick, pick-true, pick-false, both, both-true, both-yes, both-first, both-second}
+use Rattle.folds.specs.Fold.{pick-true, pick-false, both, both-true, both-yes, both-first, both-second}
 use Rattle.ints.specs.Diff.{diff, split}
 use Rattle.arith.specs.Float.{at}
 use Rattle.arith.specs.Scalar.{isFinite}
@@ -19,12 +19,9 @@ use Rattle.block.specs.Block.{Block, word}
 use Rattle.block.specs.Plan.{time}
 use Rattle.block.specs.Keeps.{bounded, bounded-true}
 use Rattle.block.specs.Laws.{bounded-far}
-use Rattle.block.specs.Gap.{price, gap}
 use Rattle.block.specs.Ranges.{maxTime, Ranged, Timed}
-use Rattle.gap.specs.Prices.{priceCount, pricesFrom}
+use Rattle.gap.specs.Prices.{priceCount}
 use Rattle.gap.specs.Input.{PlanAndPrices}
-use Rattle.answer.specs.File.{Answer}
-use Rattle.plan_check.specs.Check.{fits64}
 use Rattle.plan_check.specs.Laws.{gap-fits}
 use Rattle.rounding.specs.Lists.{timesOf, allInRange, pricesOf}
 use Rattle.rounding.specs.Laws.{time-off, length-timesOf, timesOf-at, length-pricesOf, pricesOf-small, all-finite, pricesOf-cap, cap-from, cap-small}
@@ -49,7 +46,7 @@ module _ {b : Block} (R : Ranged b) where
       }
 
   -- ---- what is written of an answer of the engine
-  module _ (x multipliers : List Float) (passes : ℕ) (raise : Float) (x-long : length x ≡ length (b .words))
+  module _ (x multipliers : List Float) (raise : Float) (x-long : length x ≡ length (b .words))
       (multipliers-long : length multipliers ≡ priceCount b) where
     abbrev times : List ℤ
     times = timesOf x
@@ -68,45 +65,48 @@ module _ {b : Block} (R : Ranged b) where
           cap-small = rw (← multipliers-long, pricesOf-cap multipliers raise) (cap-small raise .size);
         }
 
-    -- 14, by the three ways to it
-    pub not-bounded : {r : Placed} → bounded b times ≡ false → r ≡ refused 14 → r ≡ written b x multipliers passes raise
-    unfolding written judged
-    not-bounded e q = pick-false _ _ (both-second (allFinite (length x) x) e) q
+    module _ (passes : ℕ) where
+      -- 14, by the three ways to it
+      pub not-bounded : {r : Placed} → bounded b times ≡ false → r ≡ refused 14 → r ≡ written b x multipliers passes raise
+      unfolding written judged
+      not-bounded e q = pick-false _ _ (both-second (allFinite (length x) x) e) q
 
-    not-finite : {r : Placed} → allFinite (length x) x ≡ false → r ≡ refused 14 → r ≡ written b x multipliers passes raise
-    unfolding written judged
-    not-finite e q = pick-false _ _ (both-first _ e) q
+      not-finite : {r : Placed} → allFinite (length x) x ≡ false → r ≡ refused 14 → r ≡ written b x multipliers passes raise
+      unfolding written judged
+      not-finite e q = pick-false _ _ (both-first _ e) q
 
-    pub out-of-range : {r : Placed} → allInRange x ≡ false → r ≡ refused 14 → r ≡ written b x multipliers passes raise
-    out-of-range e q =
-        let o = one-off x e in
-        ⊎-elim (λ f. not-finite (unfinite (o .0) (o .1) f) q)
-        (λ f. not-bounded (bounded-far R times (o .0) (let l = o .1 in omega arith) (rw (timesOf-at x (o .0) (o .1)) f)) q)
-        (time-off (at x (o .0)) (o .2))
-      where
-        unfinite : (i : ℕ) → i < length x → isFinite (at x i) ≡ false → allFinite (length x) x ≡ false
-        unfinite i h f = go (allFinite (length x) x) refl
-          where
-            go : (t : Bool) → allFinite (length x) x ≡ t → allFinite (length x) x ≡ false
-            go true a = absurd (true≢false (sym (finite-at (length x) i x a h) ∙ f))
-            go false a = a
+      pub out-of-range : {r : Placed} → allInRange x ≡ false → r ≡ refused 14 → r ≡ written b x multipliers passes raise
+      out-of-range e q =
+          let o = one-off x e in
+          ⊎-elim (λ f. not-finite (unfinite (o .0) (o .1) f) q)
+          (λ f. not-bounded (bounded-far R times (o .0) (let l = o .1 in omega arith) (rw (timesOf-at x (o .0) (o .1)) f)) q)
+          (time-off (at x (o .0)) (o .2))
+        where
+          unfinite : (i : ℕ) → i < length x → isFinite (at x i) ≡ false → allFinite (length x) x ≡ false
+          unfinite i h f = go (allFinite (length x) x) refl
+            where
+              go : (t : Bool) → allFinite (length x) x ≡ t → allFinite (length x) x ≡ false
+              go true a = absurd (true≢false (sym (finite-at (length x) i x a h) ∙ f))
+              go false a = a
 
-    pub is-answer : {r : Placed} → allInRange x ≡ true → bounded b times ≡ true → r ≡ answered (answerFor b times prices passes)
-        → r ≡ written b x multipliers passes raise
-    unfolding written judged
-    is-answer a e q =
-        pick-true _ _ (both-yes (all-finite x a) e) (pick-true _ _ (gap-fits R (plan-and-prices e)) q)
+      pub is-answer : {r : Placed} → allInRange x ≡ true → bounded b times ≡ true → r ≡ answered (answerFor b times prices passes)
+          → r ≡ written b x multipliers passes raise
+      unfolding written judged
+      is-answer a e q =
+          pick-true _ _ (both-yes (all-finite x a) e) (pick-true _ _ (gap-fits R (plan-and-prices e)) q)
 
-    -- and no other way: an answer, within the bounds, or 14
-    pub written-by : ((bounded b times ≡ true) × (written b x multipliers passes raise ≡ answered (answerFor b times prices passes)))
-        ⊎ (written b x multipliers passes raise ≡ refused 14)
-    unfolding written judged
-    written-by = go (both (allFinite (length x) x) (bounded b times)) refl
-      where
-        go : (t : Bool) → both (allFinite (length x) x) (bounded b times) ≡ t
-            → ((bounded b times ≡ true) × (written b x multipliers passes raise ≡ answered (answerFor b times prices passes)))
-            ⊎ (written b x multipliers passes raise ≡ refused 14)
-        go true h =
-            let e = both-true _ _ h .1 in
-            inl (e, sym (pick-true _ _ h (pick-true _ _ (gap-fits R (plan-and-prices e)) refl)))
-        go false h = inr (sym (pick-false _ _ h refl))
+      -- and no other way: an answer, within the bounds, or 14
+      abbrev pub AnswerOr14 : Type 0
+      AnswerOr14 =
+          ((bounded b times ≡ true) × (written b x multipliers passes raise ≡ answered (answerFor b times prices passes)))
+          ⊎ (written b x multipliers passes raise ≡ refused 14)
+
+      pub written-by : AnswerOr14
+      unfolding written judged
+      written-by = go (both (allFinite (length x) x) (bounded b times)) refl
+        where
+          go : (t : Bool) → both (allFinite (length x) x) (bounded b times) ≡ t → AnswerOr14
+          go true h =
+              let e = both-true _ _ h .1 in
+              inl (e, sym (pick-true _ _ h (pick-true _ _ (gap-fits R (plan-and-prices e)) refl)))
+          go false h = inr (sym (pick-false _ _ h refl))

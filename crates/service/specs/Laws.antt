@@ -73,7 +73,7 @@ module _ {b : Block} (R : Ranged b) where
   written-numbered x multipliers passes raise s =
       let z = solved-sized b x multipliers passes raise s in
       ⊎-elim (λ e. subst Numbered (sym (e .1)) (inl refl)) (λ e. subst Numbered (sym e) (inr (inr (inr (inr refl)))))
-      (written-by R x multipliers passes raise (z .x-long) (z .multipliers-long))
+      (written-by R x multipliers raise (z .x-long) (z .multipliers-long) passes)
 
   engine-numbered : (o : Capped) → solveBlock b ≡ engine o → Numbered (ofEngine b (engine o))
   unfolding ofEngine numberOf Engine.number
@@ -100,9 +100,10 @@ module _ {b : Block} (R : Ranged b) {a : Answer} where
       let z = solved-sized b x multipliers passes raise s in
       ⊎-elim
       (λ w.
-      subst (Answers b) (cc)
+      let same : answerFor b (timesOf x) (pricesOf multipliers raise) passes ≡ a = cc in
+      subst (Answers b) same
       (record {
-        ranged = plan-and-prices R x multipliers passes raise (z .x-long) (z .multipliers-long) (w .0);
+        ranged = plan-and-prices R x multipliers raise (z .x-long) (z .multipliers-long) (w .0);
         bounded = bounded-true b (timesOf x) (w .0);
         gap-is = refl;
         x = x;
@@ -112,7 +113,7 @@ module _ {b : Block} (R : Ranged b) {a : Answer} where
         passes-few = z .passes-few;
       }))
       (λ w. absurd (let y : _≡_ {A = ℕ} 0 1 = cc in omega arith))
-      (written-by R x multipliers passes raise (z .x-long) (z .multipliers-long))
+      (written-by R x multipliers raise (z .x-long) (z .multipliers-long) passes)
 
   engine-answer : (e : Engine.Answer) → solveBlock b ≡ e → ofEngine b e ≡ answered a → Answers b a
   unfolding ofEngine
