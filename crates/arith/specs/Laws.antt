@@ -60,6 +60,12 @@ module _ (a b : Float) where
   unfolding max pick
   max-second h = rw (lt-number a b h .0, h)
 
+  pub max-number : isNan a ≡ false → isNan (max a b) ≡ false
+  unfolding max
+  max-number h =
+      pick-by (λ x. isNan x ≡ false) (isNan a) (λ k. absurd (false-true (sym h ∙ k)))
+      (λ _. pick-by (λ x. isNan x ≡ false) (lt a b) (λ l. lt-number a b l .1) (λ _. h))
+
   -- neither is above the larger or below the smaller
   pub max-from-first : lt (max a b) a ≡ false
   unfolding max

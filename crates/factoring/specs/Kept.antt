@@ -1,6 +1,6 @@
 -- qp.rs, `Factoring`: a Cholesky factor of Q's block on the free variables, kept from one iteration to the next, and the last set whose block was
 -- singular. Q is n by n. `Option` is a mark beside what it holds; the factor itself stands over the start of a list of its own.
-use Prim.Native.Nat.{ℕ, _≤_}
+use Prim.Native.Nat.{ℕ, _*_, _≤_}
 use mathlib.Core.Path.{_≡_}
 use mathlib.Core.Bool.{Bool, true, false}
 use mathlib.Core.List.{List}
@@ -13,6 +13,7 @@ use Rattle.matrix.specs.Matrix.{selectRows, selectColumns, index}
 use Rattle.triangular.specs.Triangular.{cholesky, positiveDefinite}
 use Rattle.triangular.specs.Pivots.{Sounds}
 use Rattle.factor.specs.Factor.{Rising, updated}
+use Rattle.factor.specs.Room.{Block}
 use Rattle.factoring.specs.declared.Listed.{Listed}
 use Rattle.factoring.specs.declared.Factoring.{Factoring}
 
@@ -100,3 +101,11 @@ pub record Good (o : ℕ) (f : Factoring) (l : List Float) : Type 0 where
   pub held : Fitting o (f .held)
   pub singular : Fitting o (f .singular)
   pub sound : f .factored ≡ true → Sounds (length (listOf (f .held))) l
+
+-- ---- what `update` asks: Q and the list, the kept factor, and room for it and for the block's rows of Q
+pub record Updatable (n o : ℕ) (q : List Float) (indices : List ℕ) (f : Factoring) (l room : List Float) : Type 0 where
+  pub block : Block n o q
+  pub rises : Rising o indices
+  pub good : Good o f l
+  pub l-holds : o * o ≤ length l
+  pub room-holds : o * n ≤ length room

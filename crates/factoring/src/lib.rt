@@ -204,11 +204,7 @@ impl Factoring {
         l: &mut [f64],
         room: &mut [f64],
     ) -> Self
-        requires { ⌜ Block n originals (now q)
-            × Rising originals (now indices)
-            × Kept.Good originals self (now l)
-            × (originals * originals ≤ length (now l))
-            × (originals * n ≤ length (now room)) ⌝ }
+        requires { ⌜ Kept.Updatable n originals (now q) (now indices) self (now l) (now room) ⌝ }
         ensures { λ r. ⌜ factor r (now (l .exit)) ≡ Kept.update (now (q .entry)) n (now (indices .entry)) self (now (l .entry)) ⌝ }
         ensures { λ r. ⌜ Kept.Good originals r (now (l .exit)) ⌝ }
     {

@@ -3,9 +3,7 @@ use mathlib.Core.Path.{_≡_, sym, ap, _∙_}
 use mathlib.Core.Bool.{true, false}
 use mathlib.Core.List.{List}
 use Prim.Native.Nat.{ℕ, _*_, _≤_}
-use native.Mathlib.Omega.{arith}
 use lib.ListN.{length, take}
-use lib.Seq.{length-take-le}
 use lib.Ieee.{Float}
 use Rattle.folds.specs.Fold.{pick}
 use Rattle.sizes.specs.Sizes as Sizes
@@ -18,23 +16,16 @@ use Rattle.factored.specs.declared.Found.{Found}
 use Rattle.factored.specs.Factored.{Answer, some, none, foundOf}
 use Rattle.factored.specs.Laws.{found-is}
 use Rattle.solution.specs.declared.Solution as Noisy
-use Rattle.solution.specs.declared.Verdict.{Verdict}
-use Rattle.solution.specs.declared.Verdict.the-variants.{Solved, NoOptimum, NonFiniteCovariance, SingularCovariance}
-use Rattle.solution.specs.Solution.{optimum, noOptimum, nonFinite, singular, answer}
+use Rattle.solution.specs.declared.Verdict.the-variants.{Solved}
+use Rattle.solution.specs.Solution.{answer}
 use Rattle.solution.specs.Solution as Kkt
-use Rattle.solution.specs.Laws.{answer-solved, answer-noOptimum, answer-nonFinite, answer-singular, solution-answer}
+use Rattle.solution.specs.Laws.{answer-solved, solution-answer}
 use Rattle.noisy_kkt.specs.NoisyKkt.{solveNoisyKkt}
 use Rattle.free_solve.specs.declared.Solved as Result
 use Rattle.free_solve.specs.FreeSolve.{Solution, solutionOf, fromFactor, otherwise, matched, afterUpdate, solveFree}
 use Rattle.free_solve.specs.Workspace.{Regular}
 
 -- ---- what a result holds
-optimum-of : {y l x multipliers : List Float} (verdict : Verdict) → answer verdict y l ≡ optimum x multipliers → (y ≡ x) × (l ≡ multipliers)
-optimum-of {y} {l} Solved e = (cc (answer-solved y l), cc (answer-solved y l))
-optimum-of {y} {l} NoOptimum e = absurd (let z : _≡_ {A = ℕ} 0 1 = cc (answer-noOptimum y l) in omega arith)
-optimum-of {y} {l} NonFiniteCovariance e = absurd (let z : _≡_ {A = ℕ} 0 1 = cc (answer-nonFinite y l) in omega arith)
-optimum-of {y} {l} SingularCovariance e = absurd (let z : _≡_ {A = ℕ} 0 1 = cc (answer-singular y l) in omega arith)
-
 module _ (k m : ℕ) (r : Result.Solved) (l : List Float) (s : Solution) (e : solutionOf k m r l ≡ s) where
   pub left-answer : s .answer ≡ answer (r .verdict) (take k (r .x)) (take m (r .multipliers))
   unfolding solutionOf
@@ -50,26 +41,6 @@ module _ (k m : ℕ) (r : Result.Solved) (l : List Float) (s : Solution) (e : so
 
   pub good-left : (o : ℕ) → Good o (s .factoring) (s .factor) → Good o (r .factoring) l
   good-left o g = rw (left-factoring, left-factor) at g
-
-  -- by its verdict
-  pub left-solved : r .verdict ≡ Solved → s .answer ≡ optimum (take k (r .x)) (take m (r .multipliers))
-  left-solved t = left-answer ∙ rw (t, answer-solved)
-
-  pub left-noOptimum : r .verdict ≡ NoOptimum → s .answer ≡ noOptimum
-  left-noOptimum t = left-answer ∙ rw (t, answer-noOptimum)
-
-  pub left-nonFinite : r .verdict ≡ NonFiniteCovariance → s .answer ≡ nonFinite
-  left-nonFinite t = left-answer ∙ rw (t, answer-nonFinite)
-
-  pub left-singular : r .verdict ≡ SingularCovariance → s .answer ≡ singular
-  left-singular t = left-answer ∙ rw (t, answer-singular)
-
-  -- an optimum's x has k entries, and its multipliers m
-  pub optimum-long : {x multipliers : List Float} → s .answer ≡ optimum x multipliers → k ≤ length (r .x) → m ≤ length (r .multipliers) →
-      (length x ≡ k) × (length multipliers ≡ m)
-  optimum-long f g h =
-      let o = optimum-of (r .verdict) (sym left-answer ∙ f) in
-      (sym (ap length (o .0)) ∙ length-take-le k (r .x) g, sym (ap length (o .1)) ∙ length-take-le m (r .multipliers) h)
 
 -- ---- what the calls give
 module _ (f : Factoring) (l : List Float) (s : System) (noise : Float) (k m : ℕ) where

@@ -4,9 +4,7 @@ ghost use mathlib.Core.Path.{_≡_};
 ghost use Prim.Native.Nat.{_≤_, _*_};
 ghost use lib.ListN.{length};
 ghost use Rattle.scaled.specs.System.{Sized, system};
-ghost use Rattle.factor.specs.Factor.{Rising};
-ghost use Rattle.factor.specs.Room.{Block};
-ghost use Rattle.factoring.specs.Kept.{factor, Good};
+ghost use Rattle.factoring.specs.Kept.{factor, Good, Updatable};
 ghost use Rattle.factored.specs.Factored.{foundOf};
 ghost use Rattle.noisy_kkt.specs.Room.{Squares, Tall};
 ghost use Rattle.free_solve.specs.Workspace.{Regular, Workspace};
@@ -199,11 +197,7 @@ pub fn solve_free(
     vectors: &mut [f64],
     l: &mut [f64],
 ) -> Solved
-    requires { ⌜ Block n originals (now q)
-        × Rising originals (now solved)
-        × Good originals factoring (now l)
-        × (originals * originals ≤ length (now l))
-        × (originals * n ≤ length (now room))
+    requires { ⌜ Updatable n originals (now q) (now solved) factoring (now l) (now room)
         × Sized (length (now solved)) m (now k) (now c) (now e) (now b)
         × Workspace (length (now solved)) m (now gram) (now ks) (now es) (now left) (now coefficients) (now range)
         (now qq) (now null) (now h) (now vectors) ⌝ }

@@ -1,9 +1,5 @@
 // The kept factor, lent by mutable reference and changed there (document 01); each call is proved equal to the by-value one of `factoring`.
 ghost use mathlib.Core.Path.{_≡_};
-ghost use Prim.Native.Nat.{_≤_, _*_};
-ghost use lib.ListN.{length};
-ghost use Rattle.factor.specs.Factor.{Rising};
-ghost use Rattle.factor.specs.Room.{Block};
 ghost use Rattle.factoring.specs.Kept.{factor};
 ghost use Rattle.factoring.specs.Kept as Kept;
 use factoring::Factoring;
@@ -24,11 +20,7 @@ pub fn update(
     l: &mut [f64],
     room: &mut [f64],
 )
-    requires { ⌜ Block n originals (now q)
-        × Rising originals (now indices)
-        × Kept.Good originals (now f) (now l)
-        × (originals * originals ≤ length (now l))
-        × (originals * n ≤ length (now room)) ⌝ }
+    requires { ⌜ Kept.Updatable n originals (now q) (now indices) (now f) (now l) (now room) ⌝ }
     ensures { λ _. ⌜ factor (now (f .exit)) (now (l .exit))
         ≡ Kept.update (now (q .entry)) n (now (indices .entry)) (now (f .entry)) (now (l .entry)) ⌝ }
     ensures { λ _. ⌜ Kept.Good originals (now (f .exit)) (now (l .exit)) ⌝ }
@@ -54,11 +46,7 @@ pub fn updated(
     l: &mut [f64],
     room: &mut [f64],
 ) -> Factoring
-    requires { ⌜ Block n originals (now q)
-        × Rising originals (now indices)
-        × Kept.Good originals f (now l)
-        × (originals * originals ≤ length (now l))
-        × (originals * n ≤ length (now room)) ⌝ }
+    requires { ⌜ Kept.Updatable n originals (now q) (now indices) f (now l) (now room) ⌝ }
     ensures { λ r. ⌜ factor r (now (l .exit)) ≡ Kept.update (now (q .entry)) n (now (indices .entry)) f (now (l .entry)) ⌝ }
     ensures { λ r. ⌜ Kept.Good originals r (now (l .exit)) ⌝ }
 {

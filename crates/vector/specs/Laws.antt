@@ -8,13 +8,14 @@ use native.Mathlib.Omega.{arith}
 use native.Mathlib.Nat.{eq-or-lt-of-le, le-of-suc-le-suc, not-suc-le-zero}
 use lib.ListN.{length, take, getD, replicate}
 use lib.Seq.{getD-take, ext-getD}
-use lib.Ieee.{Float, nan, binary64, isNan, eq}
+use lib.Ieee.{Float, nan, binary64, ofBits, isNan, eq}
 use lib.Ieee.Fits.{div-fits}
 use lib.Ieee.Positive.{num, den, den-pos, through}
 use Rattle.folds.specs.Fold.{fold, over, all-at, all-yes, some-no}
 use Rattle.folds.specs.Tab.{length-tab, getD-tab, tab-same, tab-all, over-all, over-in, take-replicate}
 use Rattle.arith.specs.Float.{fadd, fsub, fmul, fdiv, f0, at}
 use Rattle.arith.specs.Scalar.{abs, max, isFinite}
+use Rattle.arith.specs.Laws.{max-number}
 use Rattle.arith.specs.Neutral.{Held, zero-is, plus, plus-held, plus-add, add-zero}
 use Rattle.arith.specs.Quotients.{Size, Under, larger, quotient}
 use Rattle.vector.specs.Vector.{amax, anyNan, allFinite, scaled, divided, add, sub, mul, div, addScaled, subScaled, addScalar, copy, filled}
@@ -182,7 +183,12 @@ pub numbers-all : (n : ℕ) (a : List Float) → ((k : ℕ) → k < n → isNan 
 unfolding anyNan
 numbers-all n a h = some-no n (λ j. isNan (at a j)) h
 
--- ---- no element is larger than the largest
+-- ---- the largest is a number, and no element is larger
+pub amax-number : (n : ℕ) (a : List Float) → isNan (amax n a) ≡ false
+unfolding amax fold isNan ofBits
+amax-number zero a = refl
+amax-number (suc n) a = max-number (amax n a) (abs (at a n)) (amax-number n a)
+
 pub amax-largest : (n : ℕ) (a : List Float) → ((k : ℕ) → k < n → isFinite (at a k) ≡ true) →
     Size (amax n a) × ((k : ℕ) → k < n → Under (at a k) (amax n a))
 unfolding amax fold

@@ -43,7 +43,11 @@ pub fn amax(a: &[f64], n: usize) -> f64
 {
     let mut m = 0.0;
     for k in 0..n {
-        m = arith::max(m, arith::abs(a[k]));
+        let size = arith::abs(a[k]);
+        // `max`, since m is never NaN.
+        if m < size {
+            m = size;
+        }
     }
     m
 }

@@ -29,11 +29,13 @@ solve-free-requires : tie.Need-solve-free-requires
 solve-free-requires c κs =
     let p = start c .pre in
     let l = p .8 in (
-      record { few = p .6; within = p .0 .within; q-holds = p .0 .q-holds },
-      p .5,
-      p .11,
-      p .12,
-      p .7,
+      record {
+        block = record { few = p .6; within = p .0 .within; q-holds = p .0 .q-holds };
+        rises = p .5;
+        good = p .11;
+        l-holds = p .12;
+        room-holds = p .7;
+      },
       record {
         few = l .few;
         columns = le-trans (l .kept-few) (p .0 .columns);

@@ -19,33 +19,34 @@ abbrev updated : tie.After-after-update → tie.After-updated
 updated c = c .before .before .before .before .before .before .before .before .before .before .before .before .before .before .before .before
 
 listed : (c : tie.Start) → length (c .args .solved .now) ≤ c .args .originals
-listed c = listed-few (c .args .originals) (c .args .solved .now) (c .pre .1)
+listed c = listed-few (c .args .originals) (c .args .solved .now) (c .pre .0 .rises)
 
 after-update-requires : tie.Need-after-update-requires
 after-update-requires c κs =
     let u = c .before .before .before .before .before .before .before .before .before .before .before .before .before .before .before in
     let s = start (u .before) in
-    let p = s .pre in (
-      p .5,
-      regular-from _ (p .0 .few) _ _ _ _ _ (p .1) (p .2) (u .updated .ensures .0)
-          (omega (arith, area (listed s) (listed s), p .3, u .updated .kept .1 .1 .1 .1 .1 .0)),
-      p .6,
+    let p = s .pre in
+    let a = p .0 in (
+      p .1,
+      regular-from _ (a .block .few) _ _ _ _ _ (a .rises) (a .good) (u .updated .ensures .0)
+          (omega (arith, area (listed s) (listed s), a .l-holds, u .updated .kept .1 .1 .1 .1 .1 .0)),
+      p .2,
     )
 
 returns : tie.Need-returns
 returns c =
     let a = called c in
     let u = updated a in
-    let p = start (u .before) .pre in
+    let p = start (u .before) .pre .0 in
     let g = u .updated .ensures .0 in
     let e = free-from _ _ _ _ _ _ _ g (a .after-update .ensures) in
-    (e, good-left _ _ _ _ _ e _ (good-solve _ (p .0 .few) _ _ _ _ _ (p .1) (p .2) g _ _))
+    (e, good-left _ _ _ _ _ e _ (good-solve _ (p .block .few) _ _ _ _ _ (p .rises) (p .good) g _ _))
 
 pub solve-free-spec : {M : Type 1} → statement M
 solve-free-spec =
     tie.close
     (tie.spec
-    (λ c κs. let p = start c .pre in (p .0, p .1, p .2, p .3, p .4))  -- updated-requires
+    (λ c κs. start c .pre .0)  -- updated-requires
     after-update-requires
     (λ c. updated (called c) .updated .kept .1 .1 .1 .1 .1 .1 .0)  -- same-length
     (λ c. called c .after-update .kept .1 .1 .1 .1 .1 .1 .1 .1 .1 .0)  -- same-length-2

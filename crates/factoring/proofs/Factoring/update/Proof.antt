@@ -8,20 +8,20 @@ use Rattle.factoring.proofs.Factoring.update.Statement.{statement}
 use Rattle.factoring.proofs.Factoring.update.Tie as tie
 
 listed : (c : tie.Start) → length (c .args .indices .now) ≤ c .args .originals
-listed c = listed-few (c .args .originals) (c .args .indices .now) (c .pre .1)
+listed c = listed-few (c .args .originals) (c .args .indices .now) (c .pre .rises)
 
 last-updated-requires : tie.Need-last-updated-requires
 last-updated-requires c κs =
     let s = c .before .before .before .before .before .before .before in
     let p = s .pre in (
-      p .0,
+      p .block,
       record {
-        few = p .0 .few;
-        l-holds = p .3;
-        room-holds = omega (arith, area (le-refl (s .args .originals)) (p .0 .within), p .4);
+        few = p .block .few;
+        l-holds = p .l-holds;
+        room-holds = omega (arith, area (le-refl (s .args .originals)) (p .block .within), p .room-holds);
       },
-      p .2 .held,
-      p .1,
+      p .good .held,
+      p .rises,
     )
 
 abbrev updated : tie.Start → Factor
@@ -37,7 +37,7 @@ returns c =
       c .before .if1 .taken,
       c .with-factor .ensures,
     ) in
-    (e, update-good _ (s .pre .0 .few) _ _ _ _ _ (s .pre .1) (s .pre .2) e)
+    (e, update-good _ (s .pre .block .few) _ _ _ _ _ (s .pre .rises) (s .pre .good) e)
 
 returns-2 : tie.Need-returns-2
 unfolding update settled
@@ -47,7 +47,7 @@ returns-2 c =
     let s = u .before .before .before .before .before .before .before .before in
     let e : factor (a .afresh .result) (a .afresh .last .1 .1 .1 .1 .1 .0) ≡ updated s =
     rw (← u .last-updated .ensures, c .before .before .before .before .before .before .before .if1 .left) (a .afresh .ensures) in
-    (e, update-good _ (s .pre .0 .few) _ _ _ _ _ (s .pre .1) (s .pre .2) e)
+    (e, update-good _ (s .pre .block .few) _ _ _ _ _ (s .pre .rises) (s .pre .good) e)
 
 pub update-spec : {M : Type 1} → statement M
 update-spec =
@@ -55,12 +55,12 @@ update-spec =
     (tie.spec
     last-updated-requires  -- last-updated-requires
     (λ c κs. let s = c .before .before .before .before .before .before .before .before .before .before .before .before .before in
-    omega (arith, listed s, s .pre .0 .few))  -- with-factor-requires
+    omega (arith, listed s, s .pre .block .few))  -- with-factor-requires
     (λ c. search kit)  -- same-length
     (λ c. search kit)  -- same-length-2
     returns  -- returns
     (λ c κs. let p = c .before .before .before .before .before .before .before .before .before .before .before .before .before .before .before .pre in
-    (p .0, p .1, p .2 .singular, omega (arith, p .3), omega (arith, p .4)))  -- afresh-requires
+    (p .block, p .rises, p .good .singular, omega (arith, p .l-holds), omega (arith, p .room-holds)))  -- afresh-requires
     (λ c. search kit)  -- same-length-3
     (λ c. search kit)  -- same-length-4
     returns-2)  -- returns-2
