@@ -1,24 +1,19 @@
 -- qp.rs, a pass of `solve_piecewise_in_units`: the solve of the problem in the free variables, and what follows it.
-use Prim.Native.Nat.{ℕ, _*_, _≤_}
+use Prim.Native.Nat.{ℕ}
 use mathlib.Core.Path.{_≡_}
 use mathlib.Core.Bool.{Bool}
 use mathlib.Core.List.{List}
 use lib.ListN.{length}
 use lib.Ieee.{Float}
 use Rattle.folds.specs.Run.{Pass, more, done}
-use Rattle.sizes.specs.Sizes as Sizes
-use Rattle.vector.specs.Vector.{Below}
 use Rattle.scaled.specs.System.{system}
-use Rattle.solution.specs.Solution.{Kkt, optimum, noOptimum, nonFinite, singular}
 use Rattle.factoring.specs.declared.Factoring.{Factoring}
 use Rattle.segments.specs.declared.Segments.{Segments}
 use Rattle.iterate.specs.Problem.{Problem, problem}
 use Rattle.iterate.specs.Iterate.{Result, passedOf}
-use Rattle.iterate.specs.Iterate as Iterate
 use Rattle.iterate.specs.declared.Iterate.{Iterate}
-use Rattle.iterate.specs.declared.Passed.{Passed}
 use Rattle.free_solve.specs.FreeSolve.{solveFree}
-use Rattle.free_step.specs.FreeStep.{afterMinimum, descend}
+use Rattle.free_step.specs.FreeStep.{onSolution}
 use Rattle.free_pass.specs.declared.Made.{Made}
 
 -- ---- what a pass changes: the iterate, and the kept factor, whose matrix is l
@@ -32,25 +27,6 @@ beside f l (done r) = done r
 -- of what the code leaves, with n variables and m columns
 unfoldable pub madeOf : (n m : ℕ) → Made → (l : List Float) → Pass State Result
 madeOf n m r l = beside (r .factoring) l (passedOf n m (r .passed))
-
--- ---- after the solve
--- `if let Some((delta, multipliers)) = solution`, else the direction of zero curvature; `?` gives back what is refused
-unfoldable pub onSolution : Problem → (segments : List Segments) (fixed : List Bool) (qAmax linear : Float) (solved slacks kept : List ℕ)
-    (cFree gradient residuals qFree eFree : List Float) → Iterate → Kkt → Pass Iterate Result
-onSolution p segments fixed qAmax linear solved slacks kept cFree gradient residuals qFree eFree i (optimum delta multipliers) =
-    afterMinimum p segments fixed qAmax linear solved slacks kept residuals delta multipliers i
-onSolution (problem originals n m q c e b) segments fixed qAmax linear solved slacks kept cFree gradient residuals qFree eFree i noOptimum =
-    descend originals n m e segments solved slacks cFree gradient qFree eFree (length kept) i
-onSolution p segments fixed qAmax linear solved slacks kept cFree gradient residuals qFree eFree i nonFinite = done Iterate.nonFinite
-onSolution p segments fixed qAmax linear solved slacks kept cFree gradient residuals qFree eFree i singular = done Iterate.singular
-
--- of what the code leaves, whatever the right side
-abbrev pub OnSolution : (originals n m : ℕ) (q c e : List Float) (segments : List Segments) (fixed : List Bool) (qAmax linear : Float)
-    (solved slacks kept : List ℕ) (cFree gradient residuals qFree eFree : List Float) → Iterate → Kkt → (r : Passed) → Type 0
-OnSolution originals n m q c e segments fixed qAmax linear solved slacks kept cFree gradient residuals qFree eFree i s r =
-    (b : List Float) →
-    passedOf n m r
-    ≡ onSolution (problem originals n m q c e b) segments fixed qAmax linear solved slacks kept cFree gradient residuals qFree eFree i s
 
 -- ---- the solve
 -- `let problem = (&q_free, &gradient_free, &e_free, &residual)`, and its solve
@@ -70,14 +46,3 @@ OnProblem originals n m q c e segments fixed qAmax linear solved slacks kept cFr
     madeOf n m r l′
     ≡ onProblem (problem originals n m q c e b) segments fixed qAmax linear solved slacks kept cFree gradient residuals qFree eFree residual noise i
     f l
-
--- what the solve and what follows it ask of the lists, with k variables solved and m columns
-pub record Lists (k m : ℕ) (kept : List ℕ) (cFree gradient residuals qFree eFree : List Float) : Type 0 where
-  pub few : k ≤ Sizes.originals
-  pub kept-few : length kept ≤ m
-  pub kept-below : Below (length kept) kept m
-  pub c-holds : k ≤ length cFree
-  pub gradient-holds : k ≤ length gradient
-  pub residuals-hold : m ≤ length residuals
-  pub q-holds : k * k ≤ length qFree
-  pub e-holds : k * length kept ≤ length eFree

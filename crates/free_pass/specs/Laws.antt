@@ -17,7 +17,8 @@ use Rattle.free_solve.specs.FreeSolve.{solutionOf, solveFree}
 use Rattle.free_solve.specs.declared.Solved.{Solved}
 use Rattle.free_solve.specs.Laws.{left-answer, left-factoring, left-factor}
 use Rattle.free_pass.specs.declared.Made.{Made}
-use Rattle.free_pass.specs.FreePass.{state, beside, madeOf, onSolution, onProblem}
+use Rattle.free_step.specs.FreeStep.{onSolution}
+use Rattle.free_pass.specs.FreePass.{state, beside, madeOf, onProblem}
 
 -- a length that is known, in an inequality
 pub still : {a b l : ℕ} → l ≡ b → a ≤ b → a ≤ l

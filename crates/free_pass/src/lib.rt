@@ -4,140 +4,24 @@
 ghost use Prim.Native.Nat.{_≤_, _*_};
 ghost use lib.ListN.{length};
 ghost use Rattle.sizes.specs.Sizes as Sizes;
-ghost use Rattle.noisy_kkt.specs.Room.{Squares, Tall};
 ghost use Rattle.factor.specs.Factor.{Rising};
 ghost use Rattle.factoring.specs.Kept.{Good};
-ghost use Rattle.solution.specs.Solution.{answer};
 ghost use Rattle.segments.specs.Segments.{AllCut};
 ghost use Rattle.free_list.specs.FreeList.{Ends};
 ghost use Rattle.iterate.specs.Iterate.{Kept};
 ghost use Rattle.advance.specs.Advance.{Shape};
 ghost use Rattle.free_solve.specs.Workspace.{Workspace};
-ghost use Rattle.free_step.specs.FreeStep.{Split};
+ghost use Rattle.free_step.specs.FreeStep.{Split, Lists};
 ghost use Rattle.free_pass.specs.FreePass as Definition;
-ghost use Rattle.free_pass.specs.FreePass.{Lists};
 use factoring::Factoring;
-use iterate::Ending;
 use iterate::Iterate;
 use iterate::Passed;
 use segments::Segments;
-use solution::Verdict;
 
 // A pass, and what it leaves of the kept factor, beside the factor itself.
 pub struct Made {
     pub passed: Passed,
     pub factoring: Factoring,
-}
-
-// What follows the solve on the free variables.
-fn after_solve(
-    verdict: Verdict,
-    iterate: Iterate,
-    segments: [Segments; sizes::VARIABLES],
-    fixed: &[bool],
-    q: &[f64],
-    c: &[f64],
-    e: &[f64],
-    n: usize,
-    m: usize,
-    originals: usize,
-    q_amax: f64,
-    linear: f64,
-    indices: &[usize],
-    solved: &[usize],
-    slacks: &[usize],
-    kept: &[usize],
-    c_free: &[f64],
-    gradient: &[f64],
-    residuals: &[f64],
-    q_free: &[f64],
-    e_free: &[f64],
-    delta: &[f64],
-    multipliers: &[f64],
-    lower: &[f64],
-    upper: &[f64],
-    ks: &mut [f64],
-    es: &mut [f64],
-    left: &mut [f64],
-    coefficients: &mut [f64],
-    range: &mut [f64],
-    qq: &mut [f64],
-    null: &mut [f64],
-    h: &mut [f64],
-    vectors: &mut [f64],
-) -> Passed
-    requires { ⌜ Shape originals n m (now q) (now c) (now e)
-        × AllCut n segments
-        × Kept n segments iterate
-        × (n ≤ length (now fixed))
-        × Split originals n m (now e) (iterate .board .state) (now indices) (now solved) (now slacks)
-        × Lists (length (now solved)) m (now kept) (now «c_free») (now gradient) (now residuals) (now «q_free») (now «e_free»)
-        × (length (now solved) ≤ length (now delta))
-        × (length (now kept) ≤ length (now multipliers))
-        × (length (now solved) * length (now solved) ≤ length (now ks))
-        × (length (now solved) * length (now kept) ≤ length (now es))
-        × Tall (length (now solved)) (length (now kept)) (now left) (now coefficients) (now range)
-        × Squares (length (now solved)) (now qq) (now null) (now h) (now vectors)
-        × Ends n segments (iterate .board .state) (now lower) (now upper) ⌝ }
-    ensures { λ r. ⌜ Definition.OnSolution originals n m (now (q .entry)) (now (c .entry)) (now (e .entry)) segments (now (fixed .entry))
-        «q_amax» linear (now (solved .entry)) (now (slacks .entry)) (now (kept .entry)) (now («c_free» .entry)) (now (gradient .entry))
-        (now (residuals .entry)) (now («q_free» .entry)) (now («e_free» .entry)) iterate
-        (answer verdict (now (delta .entry)) (now (multipliers .entry))) r ⌝ }
-    ensures { λ r. ⌜ Kept n segments (r .iterate) ⌝ }
-{
-    match verdict {
-        Verdict::Solved => free_step::minimum(
-            iterate,
-            segments,
-            fixed,
-            q,
-            c,
-            e,
-            n,
-            m,
-            originals,
-            q_amax,
-            linear,
-            indices,
-            solved,
-            slacks,
-            kept,
-            residuals,
-            delta,
-            multipliers,
-            lower,
-            upper,
-        ),
-        Verdict::NoOptimum => free_step::descend(
-            iterate,
-            segments,
-            e,
-            n,
-            m,
-            originals,
-            indices,
-            solved,
-            slacks,
-            c_free,
-            gradient,
-            q_free,
-            e_free,
-            kept.len(),
-            lower,
-            upper,
-            ks,
-            es,
-            left,
-            coefficients,
-            range,
-            qq,
-            null,
-            h,
-            vectors,
-        ),
-        Verdict::NonFiniteCovariance => iterate::ended(Ending::NonFiniteCovariance, iterate),
-        Verdict::SingularCovariance => iterate::ended(Ending::SingularCovariance, iterate),
-    }
 }
 
 // The solve on the free variables, and what follows it.
@@ -232,7 +116,7 @@ pub fn with_problem(
     let delta = s.x;
     let multipliers = s.multipliers;
     let left_factoring = s.factoring;
-    let passed = after_solve(
+    let passed = free_step::after_solve(
         verdict,
         iterate,
         segments,

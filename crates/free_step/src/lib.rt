@@ -1,5 +1,5 @@
 // qp.rs, what follows the solve of a pass of `solve_piecewise_in_units`: the step to the minimum on the free variables, or, where they have none,
-// along a direction of zero curvature. The free variables `indices` are `solved` and, after them, `slacks`.
+// along a direction of zero curvature. The free variables `indices` are `solved`, those below `originals`, and, after them, `slacks`.
 ghost use mathlib.Core.Path.{_≡_};
 ghost use Prim.Native.Nat.{_≤_, _+_, _-_, _*_};
 ghost use lib.ListN.{length};
@@ -7,6 +7,7 @@ ghost use Rattle.folds.specs.Fold.{over};
 ghost use Rattle.sizes.specs.Sizes as Sizes;
 ghost use Rattle.vector.specs.Vector.{Below};
 ghost use Rattle.noisy_kkt.specs.Room.{Squares, Tall};
+ghost use Rattle.solution.specs.Solution.{answer};
 ghost use Rattle.segments.specs.Segments.{AllCut};
 ghost use Rattle.free_list.specs.FreeList.{Ends};
 ghost use Rattle.slack_rows.specs.SlackRows.{Rows, Solved, withSlackSteps};
@@ -15,12 +16,13 @@ ghost use Rattle.iterate.specs.Problem.{firstSlackColumn};
 ghost use Rattle.iterate.specs.Iterate.{passedOf, Kept};
 ghost use Rattle.advance.specs.Advance.{Shape};
 ghost use Rattle.free_step.specs.FreeStep as FreeStep;
-ghost use Rattle.free_step.specs.FreeStep.{Split};
+ghost use Rattle.free_step.specs.FreeStep.{Split, Lists};
 use iterate::Ending;
 use iterate::Iterate;
 use iterate::Passed;
 use ray::Ray;
 use segments::Segments;
+use solution::Verdict;
 
 // The step on the variables `solved`, with the slacks' after it.
 fn slack_steps(
@@ -61,7 +63,7 @@ fn slack_steps(
 }
 
 // The minimum on the free variables, as the step `delta` from x.
-pub fn minimum(
+fn minimum(
     iterate: Iterate,
     segments: [Segments; sizes::VARIABLES],
     fixed: &[bool],
@@ -192,7 +194,7 @@ fn on_ray(
 }
 
 // No minimum on the free variables. Q, E and the gradient are those of the variables `solved`; the slices from ks on are work memory.
-pub fn descend(
+fn descend(
     iterate: Iterate,
     segments: [Segments; sizes::VARIABLES],
     e: &[f64],
@@ -272,4 +274,115 @@ pub fn descend(
         lower,
         upper,
     )
+}
+
+// What follows the solve on the free variables, by its verdict. The slices from ks on are work memory.
+pub fn after_solve(
+    verdict: Verdict,
+    iterate: Iterate,
+    segments: [Segments; sizes::VARIABLES],
+    fixed: &[bool],
+    q: &[f64],
+    c: &[f64],
+    e: &[f64],
+    n: usize,
+    m: usize,
+    originals: usize,
+    q_amax: f64,
+    linear: f64,
+    indices: &[usize],
+    solved: &[usize],
+    slacks: &[usize],
+    kept: &[usize],
+    c_free: &[f64],
+    gradient: &[f64],
+    residuals: &[f64],
+    q_free: &[f64],
+    e_free: &[f64],
+    delta: &[f64],
+    multipliers: &[f64],
+    lower: &[f64],
+    upper: &[f64],
+    ks: &mut [f64],
+    es: &mut [f64],
+    left: &mut [f64],
+    coefficients: &mut [f64],
+    range: &mut [f64],
+    qq: &mut [f64],
+    null: &mut [f64],
+    h: &mut [f64],
+    vectors: &mut [f64],
+) -> Passed
+    requires { ⌜ Shape originals n m (now q) (now c) (now e)
+        × AllCut n segments
+        × Kept n segments iterate
+        × (n ≤ length (now fixed))
+        × Split originals n m (now e) (iterate .board .state) (now indices) (now solved) (now slacks)
+        × Lists (length (now solved)) m (now kept) (now «c_free») (now gradient) (now residuals) (now «q_free») (now «e_free»)
+        × (length (now solved) ≤ length (now delta))
+        × (length (now kept) ≤ length (now multipliers))
+        × (length (now solved) * length (now solved) ≤ length (now ks))
+        × (length (now solved) * length (now kept) ≤ length (now es))
+        × Tall (length (now solved)) (length (now kept)) (now left) (now coefficients) (now range)
+        × Squares (length (now solved)) (now qq) (now null) (now h) (now vectors)
+        × Ends n segments (iterate .board .state) (now lower) (now upper) ⌝ }
+    ensures { λ r. ⌜ FreeStep.OnSolution originals n m (now (q .entry)) (now (c .entry)) (now (e .entry)) segments (now (fixed .entry))
+        «q_amax» linear (now (solved .entry)) (now (slacks .entry)) (now (kept .entry)) (now («c_free» .entry)) (now (gradient .entry))
+        (now (residuals .entry)) (now («q_free» .entry)) (now («e_free» .entry)) iterate
+        (answer verdict (now (delta .entry)) (now (multipliers .entry))) r ⌝ }
+    ensures { λ r. ⌜ Kept n segments (r .iterate) ⌝ }
+{
+    match verdict {
+        Verdict::Solved => minimum(
+            iterate,
+            segments,
+            fixed,
+            q,
+            c,
+            e,
+            n,
+            m,
+            originals,
+            q_amax,
+            linear,
+            indices,
+            solved,
+            slacks,
+            kept,
+            residuals,
+            delta,
+            multipliers,
+            lower,
+            upper,
+        ),
+        Verdict::NoOptimum => descend(
+            iterate,
+            segments,
+            e,
+            n,
+            m,
+            originals,
+            indices,
+            solved,
+            slacks,
+            c_free,
+            gradient,
+            q_free,
+            e_free,
+            kept.len(),
+            lower,
+            upper,
+            ks,
+            es,
+            left,
+            coefficients,
+            range,
+            qq,
+            null,
+            h,
+            vectors,
+        ),
+        Verdict::NonFiniteCovariance => iterate::ended(Ending::NonFiniteCovariance, iterate),
+        Verdict::SingularCovariance => iterate::ended(Ending::SingularCovariance, iterate),
+    }
 }

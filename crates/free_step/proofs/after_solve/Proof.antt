@@ -2,9 +2,9 @@ use borrow.Author.Needs.{needs}
 use native.Mathlib.Nat.{le-trans}
 use Rattle.solution.specs.Laws.{answer-solved, answer-noOptimum, answer-nonFinite, answer-singular}
 use Rattle.iterate.specs.Laws.{passed-nonFinite, passed-singular}
-use Rattle.free_pass.specs.FreePass.{onSolution}
-use Rattle.free_pass.proofs.after_solve.Statement.{statement}
-use Rattle.free_pass.proofs.after_solve.Tie as tie
+use Rattle.free_step.specs.FreeStep.{onSolution}
+use Rattle.free_step.proofs.after_solve.Statement.{statement}
+use Rattle.free_step.proofs.after_solve.Tie as tie
 
 abbrev start : tie.After-slice-known9 → tie.Start
 start c =
