@@ -2,7 +2,7 @@
 use mathlib.Core.Path.{_≡_, refl, sym, _∙_, ap}
 use mathlib.Core.List.{List}
 use Prim.Native.Nat.{ℕ}
-use lib.ListN.{take}
+use lib.ListN.{length, take}
 use Rattle.format.specs.Read as Read
 use Rattle.format.specs.Read.{Outcome, read}
 use Rattle.format.specs.Longest.{enough, read-enough}
@@ -18,6 +18,10 @@ use Rattle.places.specs.Places.{room, ofPlaced, ofRead, listing}
 pub listing-enough : (s : List ℕ) → listing s ≡ listing (take enough s)
 unfolding listing
 listing-enough s = ap ofRead (read-enough s)
+
+-- so the first n bytes of a list that has room for as many tell the listing of whatever file they are all that the list can hold of
+pub listing-kept : (file kept : List ℕ) (n : ℕ) → length kept ≡ enough → take (length kept) file ≡ take n kept → listing (take n kept) ≡ listing file
+listing-kept file kept n l e = ap listing (sym e) ∙ ap (λ (k : ℕ). listing (take k file)) l ∙ sym (listing-enough file)
 
 module _ {s : List ℕ} {p : Placement} (P : PlacedFor s room p) where
   pub listing-plan : p .number ≡ 0 → plan (blockOf (p .block)) (take (p .block .words) (p .times)) (p .gap) (p .passes) ≡ listing s

@@ -1,14 +1,16 @@
 // Reads a block from standard input and prints the listing of its plan, or its refusal. The listing is specs/Places.antt.
 use libc::STDIN_FILENO;
 use libc::STDOUT_FILENO;
-ghost use Prim.Native.Nat.{_≤_};
-ghost use lib.ListN.{length};
+ghost use mathlib.Core.Path.{_≡_};
+ghost use mathlib.Core.List.{List};
+ghost use Prim.Native.Nat.{ℕ, _≤_};
+ghost use lib.ListN.{length, take};
 ghost use Rattle.listing.specs.Appended.{Listed};
 ghost use Rattle.listing.specs.Longest.{longest};
 ghost use Rattle.places.specs.Places.{listing};
 
-// The longest block and a header after it: no byte past them changes the reading.
-const BLOCK: usize = 2346;
+// What is kept of a file: the longest block and a header after it, since no byte past them changes the reading.
+const KEPT: usize = 2346;
 
 // The longest listing.
 const LISTING: usize = 672;
@@ -32,6 +34,16 @@ fn listing_of(block: &[u8], out: &mut [u8]) -> usize
     listing::refused(p.number, out)
 }
 
+// The listing of whatever file it is of which `kept` holds n bytes: all, or the first, as many as there is room for.
+fn listing_of_kept(kept: [u8; KEPT], n: usize, out: &mut [u8]) -> usize
+    requires { ⌜ (n ≤ length kept) × (longest ≤ length (now out)) ⌝ }
+    ensures { λ r. ⌜ ((file : List ℕ) → take (length kept) file ≡ take n kept
+        → Listed (listing file) (now (out .entry)) r (now (out .exit))) ⌝ }
+    ensures { λ r. ⌜ r ≤ length (now (out .exit)) ⌝ }
+{
+    listing_of(&kept[..n], out)
+}
+
 // Reads on to the end of standard input.
 fn skip_rest() {
     let mut past = io::large_buffer();
@@ -43,10 +55,10 @@ fn skip_rest() {
 }
 
 fn main() {
-    let mut block = [0u8; BLOCK];
-    let n = io::read_full(STDIN_FILENO, &mut block);
+    let mut kept = [0u8; KEPT];
+    let n = io::read_full(STDIN_FILENO, &mut kept);
     skip_rest();
     let mut text = [0u8; LISTING];
-    let k = listing_of(&block[..n], &mut text);
+    let k = listing_of_kept(kept, n, &mut text);
     io::write_all(STDOUT_FILENO, &text[..k]);
 }
