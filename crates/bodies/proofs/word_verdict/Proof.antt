@@ -1,7 +1,7 @@
 use mathlib.Core.Path.{refl}
 use native.Mathlib.Omega.{arith}
 use borrow.Author.Needs.{needs}
-use Rattle.format.specs.Laws.{need-stop, need-on, upto-no, calls, orders}
+use Rattle.format.specs.Laws.{need-stop, need-on, upto-yes, upto-no, calls, orders}
 use Rattle.format.specs.Equations.{wordVerdict-by}
 use Rattle.bodies.proofs.word_verdict.Statement.{statement}
 use Rattle.bodies.proofs.word_verdict.Tie as tie
@@ -32,7 +32,7 @@ word-verdict-spec =
     (need-on _ _ (search calls)
     (need-on _ _ (search calls)
     (need-on _ _ (search calls)
-    (need-on _ _ (search calls)
+    (need-on _ _ (upto-yes _ (c .before .before .u32-at5 .ensures .0) (omega (arith, c .before .if5 .left)))
     (need-stop _ _ (search orders))))))))
     (λ c.
     wordVerdict-by _
@@ -40,6 +40,6 @@ word-verdict-spec =
     (need-on _ _ (search calls)
     (need-on _ _ (search calls)
     (need-on _ _ (search calls)
-    (need-on _ _ (search calls)
+    (need-on _ _ (upto-yes _ (c .before .before .u32-at5 .ensures .0) (omega (arith, c .before .if5 .left)))
     (need-on _ _ (search orders)
     refl))))))))

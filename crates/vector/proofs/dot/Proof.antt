@@ -1,4 +1,5 @@
-use Rattle.folds.specs.Kit.{_≡_, _-_, _≤_, kit}
+use Rattle.folds.specs.Kit.{_≡_, _-_, _≤_, arith, kit}
+use Rattle.folds.specs.Fold.{fold-none}
 use Rattle.vector.specs.Vector.{dot}
 use Rattle.vector.proofs.dot.Statement.{statement}
 use Rattle.vector.proofs.dot.Tie as tie
@@ -13,7 +14,13 @@ pub dot-spec : {M : Type 1} → statement M
 unfolding dot
 dot-spec =
     tie.close
-    (tie.spec Inv-loop μ-loop (λ c. search kit) (λ c. search kit) (λ c. search kit) (λ c. search kit) (λ c. search kit) (λ c. search kit)
+    (tie.spec Inv-loop μ-loop
+    (λ c. (omega arith, fold-none _ _))  -- loop-start
+    (λ c. search kit)
+    (λ c. search kit)
+    (λ c. search kit)
+    (λ c. search kit)
+    (λ c. search kit)
     (λ c. search kit)
     (λ c. search kit)  -- loop-again
     (λ c. search kit))  -- returns
