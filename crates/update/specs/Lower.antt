@@ -174,6 +174,20 @@ length-joining n p l q =
     span-keep (λ (x : List Float). length x ≡ length q) (p + 1) (n + 1) (joinBelow n p l) (joinDiagonal p (forward p l n q))
     (length-set (forward p l n q) p _ ∙ length-forward p l n q) (λ i x g h w. length-set x i _ ∙ w)
 
+-- the new row and column aside, an entry is read from the factor
+pub joinedEntry-same : (n p : ℕ) (a b x : List Float) (i j : ℕ) →
+    ((i ≡ p → ⊥) → (j ≡ p → ⊥) → cell a n (standing p i) (standing p j) ≡ cell b n (standing p i) (standing p j)) →
+    joinedEntry n p a x i j ≡ joinedEntry n p b x i j
+unfolding joinedEntry pick
+joinedEntry-same n p a b x i j h = go (eqb i p) (eqb j p) refl refl
+  where
+    go : (s t : Bool) → eqb i p ≡ s → eqb j p ≡ t →
+        pick s (at x j) (pick t (at x i) (cell a n (standing p i) (standing p j)))
+        ≡ pick s (at x j) (pick t (at x i) (cell b n (standing p i) (standing p j)))
+    go true t u v = refl
+    go false true u v = refl
+    go false false u v = h (eqb-false i p u) (eqb-false j p v)
+
 module _ (n p : ℕ) (a b : List Float) (h : p ≤ n) (e : Lower n a b) where
   pub joining-lower : (q : List Float) → joining n p a q ≡ joining n p b q
   unfolding joining joinBelow
@@ -195,15 +209,7 @@ module _ (n p : ℕ) (a b : List Float) (h : p ≤ n) (e : Lower n a b) where
       (lt-or-le p i)
 
   entry-joined : (x : List Float) (i j : ℕ) → j ≤ i → i < n + 1 → joinedEntry n p a x i j ≡ joinedEntry n p b x i j
-  unfolding joinedEntry pick
-  entry-joined x i j g q = go (eqb i p) (eqb j p) refl refl
-    where
-      go : (s t : Bool) → eqb i p ≡ s → eqb j p ≡ t →
-          pick s (at x j) (pick t (at x i) (cell a n (standing p i) (standing p j))) ≡ pick s (at x j)
-          (pick t (at x i) (cell b n (standing p i) (standing p j)))
-      go true t u v = refl
-      go false true u v = refl
-      go false false u v = placed i j g q (eqb-false i p u) (eqb-false j p v)
+  entry-joined x i j g q = joinedEntry-same n p a b x i j (placed i j g q)
 
   join-lower : (q o r : List Float) → (n + 1) * (n + 1) ≤ length o → (n + 1) * (n + 1) ≤ length r → Lower (n + 1) (join n p q a o) (join n p q b r)
   unfolding join joined

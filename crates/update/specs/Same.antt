@@ -1,16 +1,13 @@
 -- Only the factor counts of the list that it is read from: its first n * n elements.
-use mathlib.Core.Path.{_≡_, refl, _∙_}
-use mathlib.Core.Bool.{Bool, true, false}
+use mathlib.Core.Path.{_≡_, _∙_}
 use mathlib.Core.List.{List}
 use mathlib.Core.Logic.{⊎-elim}
 use Prim.Native.Nat.{ℕ, _+_, _-_, _*_, _<_, _≤_}
 use native.Mathlib.Nat.{eq-or-lt-of-le}
 use native.Mathlib.Omega.{arith}
-use lib.Dec.{eqb}
 use lib.ListN.{length}
 use lib.Ieee.{Float}
-use borrow.Author.Tests.{eqb-false}
-use Rattle.folds.specs.Fold.{over, pick}
+use Rattle.folds.specs.Fold.{over}
 use Rattle.folds.specs.Decide.{lt-or-le}
 use Rattle.folds.specs.Tab.{tabM-same, over-in}
 use Rattle.arith.specs.Float.{at}
@@ -21,7 +18,7 @@ use Rattle.matrix.specs.Laws.{cell-same}
 use Rattle.triangular.specs.Laws.{Lower}
 use Rattle.update.specs.Update.{staying, closedEntry, closed, leave, removeColumn, standing, joinedEntry, joining, joined, join, insertColumn}
 use Rattle.update.specs.Leaving.{staying-below}
-use Rattle.update.specs.Lower.{standing-low, standing-high, removed-lower, joining-lower}
+use Rattle.update.specs.Lower.{standing-low, standing-high, removed-lower, joinedEntry-same, joining-lower}
 
 same-lower : (n : ℕ) (a b : List Float) → Same (n * n) a b → Lower n a b
 same-lower n a b e i j g q = cell-same n n i j q (omega arith) a b e
@@ -56,16 +53,9 @@ module _ (n p : ℕ) (a b : List Float) (h : p ≤ n) (e : Same (n * n) a b) whe
       (lt-or-le p i)
 
   entry-same : (x : List Float) (i j : ℕ) → i < n + 1 → j < n + 1 → joinedEntry n p a x i j ≡ joinedEntry n p b x i j
-  unfolding joinedEntry pick
-  entry-same x i j u v = go (eqb i p) (eqb j p) refl refl
-    where
-      go : (s t : Bool) → eqb i p ≡ s → eqb j p ≡ t →
-          pick s (at x j) (pick t (at x i) (cell a n (standing p i) (standing p j)))
-          ≡ pick s (at x j) (pick t (at x i) (cell b n (standing p i) (standing p j)))
-      go true t f g = refl
-      go false true f g = refl
-      go false false f g =
-          cell-same n n (standing p i) (standing p j) (standing-below i u (eqb-false i p f)) (standing-below j v (eqb-false j p g)) a b e
+  entry-same x i j u v =
+      joinedEntry-same n p a b x i j
+      (λ c d. cell-same n n (standing p i) (standing p j) (standing-below i u c) (standing-below j v d) a b e)
 
   joined-same : (x : List Float) → joined n p a x ≡ joined n p b x
   unfolding joined
