@@ -18,7 +18,7 @@ use Rattle.update.specs.Update.{removeColumn, insertColumn}
 
 -- a list of variables below o, in rising order: those that it contains
 pub record Rising (o : ℕ) (list : List ℕ) : Type 0 where
-  pub own : chosen o (contains list) ≡ list
+  pub is-chosen : chosen o (contains list) ≡ list
 
 -- ---- update, or factor afresh
 -- `indices.iter().filter(|i| held.binary_search(i).is_err()).count()`

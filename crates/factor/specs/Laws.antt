@@ -24,13 +24,13 @@ use Rattle.factor.specs.Factor.{Rising, columnOn}
 -- ---- rising lists
 module _ (o : ℕ) (list : List ℕ) (r : Rising o list) where
   pub listed-few : length list ≤ o
-  listed-few = rw (r .own) at (length-chosen o (contains list))
+  listed-few = rw (r .is-chosen) at (length-chosen o (contains list))
 
   pub listed-below : (n : ℕ) → o ≤ n → Below (length list) list n
-  listed-below n l i h = lt-of-lt-of-le (rw (r .own) at (chosen-below o (contains list) i (rw (r .own) h))) l
+  listed-below n l i h = lt-of-lt-of-le (rw (r .is-chosen) at (chosen-below o (contains list) i (rw (r .is-chosen) h))) l
 
 pub rising-chosen : (o : ℕ) (p : ℕ → Bool) → Rising o (chosen o p)
-rising-chosen o p = record { own = chosen-same o (contains (chosen o p)) p (contains-chosen o p) }
+rising-chosen o p = record { is-chosen = chosen-same o (contains (chosen o p)) p (contains-chosen o p) }
 
 pub length-columnOn : (q : List Float) (n : ℕ) (held : List ℕ) (i : ℕ) → length (columnOn q n held i) ≡ length held
 unfolding columnOn

@@ -318,5 +318,5 @@ module _ (q : List Float) (n o : ℕ) (few : o ≤ Sizes.originals) where
       updated q n o (marks Sizes.originals from) l indices ≡ Factor.updated q n from l indices
   updated-same from indices l r i =
       let Agree : List ℕ → List ℕ → Type 0 = λ x y. updated q n o (marks Sizes.originals x) l y ≡ Factor.updated q n x l y in
-      subst (λ x. Agree x indices) (r .own)
-      (subst (λ y. Agree (chosen o (contains from)) y) (i .own) (chosen-updated (contains from) (contains indices) l))
+      subst (λ x. Agree x indices) (r .is-chosen)
+      (subst (λ y. Agree (chosen o (contains from)) y) (i .is-chosen) (chosen-updated (contains from) (contains indices) l))

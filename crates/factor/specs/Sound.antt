@@ -126,5 +126,5 @@ pub updated-sound : (q : List Float) (n o : ℕ) (from indices : List ℕ) (l m 
     Rising o from → Rising o indices → Sounds (length from) l → Factor.updated q n from l indices ≡ out true m → Sounds (length indices) m
 updated-sound q n o from indices l m few r i s e =
     let u : updated q n o (marks Sizes.originals from) l indices ≡ out true m = updated-same q n o few from indices l r i ∙ e in
-    let v : updated q n o (marks Sizes.originals (chosen o (contains from))) l (chosen o (contains indices)) ≡ out true m = rw (r .own, i .own) u in
-    rw (i .own) at (chosen-sound o few (contains indices) q n (contains from) l m (rw (r .own) s) v)
+    let v : updated q n o (marks Sizes.originals (chosen o (contains from))) l (chosen o (contains indices)) ≡ out true m = rw (r .is-chosen, i .is-chosen) u in
+    rw (i .is-chosen) at (chosen-sound o few (contains indices) q n (contains from) l m (rw (r .is-chosen) s) v)

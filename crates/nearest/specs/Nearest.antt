@@ -1,4 +1,4 @@
--- The nearest whole number to a finite f64, halves to even, by its exact value. Callers use the laws: at most half away (`nearest-near`), a half
+-- The nearest whole number to a finite f64, halves to even, by its exact value. Callers use the laws: at most half away (`nearest-within-half`), a half
 -- goes to the even one (`nearest-even`), a whole number is its own (`nearest-own`), the order stays (`nearest-mono`) and so do whole bounds
 -- (`nearest-from`, `nearest-upto`).
 use mathlib.Core.Path.{_≡_, ap, _∙_, subst}
@@ -10,7 +10,7 @@ use lib.Signed.{_≤ℤ_}
 use lib.Ieee.{Float, binary64, fits, lt, le}
 use lib.Ieee.Fits.{ofInt-fits}
 use Rattle.arith.specs.Scalar.{isFinite}
-use Rattle.nearest.specs.Whole.{even, Near, Even, even-is, even-own, even-mono, even-from, even-upto}
+use Rattle.nearest.specs.Whole.{even, WithinHalf, Even, even-is, even-own, even-mono, even-from, even-upto}
 use Rattle.nearest.specs.Value.{one, one-pos, units, fromℤ, units-whole, finite-whole, not-lt-units, le-units}
 
 unfoldable pub nearest : Float → ℤ
@@ -18,9 +18,9 @@ unfolding even
 nearest x = even (units x) one
 
 -- 2 × |x - r| ≤ 1
-pub nearest-near : (x : Float) → Near (units x) one (nearest x)
+pub nearest-within-half : (x : Float) → WithinHalf (units x) one (nearest x)
 unfolding nearest
-nearest-near x = even-is (units x) one one-pos .near
+nearest-within-half x = even-is (units x) one one-pos .within-half
 
 pub nearest-even : (x : Float) → Even (units x) one (nearest x)
 unfolding nearest

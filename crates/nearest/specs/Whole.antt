@@ -58,7 +58,7 @@ pub antisym : (p q : ℤ) → p ≤ℤ q → q ≤ℤ p → p ≡ q
 antisym = split _ λ a b. split _ λ c d. simp diff (omega arith)
 
 -- ---- r is at most half away from v / u: 2 * |v - r * u| ≤ u
-pub record Near (v : ℤ) (u : ℕ) (r : ℤ) : Type 0 where
+pub record WithinHalf (v : ℤ) (u : ℕ) (r : ℤ) : Type 0 where
   pub low : (pos 2 *ℤ v) ≤ℤ (pos 2 *ℤ (r *ℤ pos u) +ℤ pos u)
   pub high : (pos 2 *ℤ (r *ℤ pos u)) ≤ℤ (pos 2 *ℤ v +ℤ pos u)
 
@@ -71,21 +71,21 @@ Over v u r = pos 2 *ℤ v ≡ pos 2 *ℤ (r *ℤ pos u) +ℤ pos u
 
 -- and at a half it is the lower, the upper, or the even one
 pub record Earlier (v : ℤ) (u : ℕ) (r : ℤ) : Type 0 where
-  pub near : Near v u r
+  pub within-half : WithinHalf v u r
   pub half : Under v u r → ⊥
 
 pub record Later (v : ℤ) (u : ℕ) (r : ℤ) : Type 0 where
-  pub near : Near v u r
+  pub within-half : WithinHalf v u r
   pub half : Over v u r → ⊥
 
 pub record Even (v : ℤ) (u : ℕ) (r : ℤ) : Type 0 where
-  pub near : Near v u r
+  pub within-half : WithinHalf v u r
   pub under : Under v u r → natAbs r % 2 ≡ 0
   pub over : Over v u r → natAbs r % 2 ≡ 0
 
 -- ---- the definitions are that
 earlier-of : (v : ℤ) (u : ℕ) (q : ℤ) → Floor (pos u -ℤ pos 2 *ℤ v) (2 * u) q → Earlier v u (negℤ q)
-earlier-of v u q f = record { near = record { low = low v q (f .below); high = high v q (f .above) }; half = half v q (f .above) }
+earlier-of v u q f = record { within-half = record { low = low v q (f .below); high = high v q (f .above) }; half = half v q (f .above) }
   where
     low : (v q : ℤ) → (q *ℤ pos (2 * u)) ≤ℤ (pos u -ℤ pos 2 *ℤ v) → (pos 2 *ℤ v) ≤ℤ (pos 2 *ℤ (negℤ q *ℤ pos u) +ℤ pos u)
     low = split _ λ a b. split _ λ c d. simp diff (omega arith)
@@ -97,7 +97,7 @@ earlier-of v u q f = record { near = record { low = low v q (f .below); high = h
     half = split _ λ a b. split _ λ c d. simp diff (omega arith)
 
 later-of : (v : ℤ) (u : ℕ) (q : ℤ) → Floor (pos 2 *ℤ v +ℤ pos u) (2 * u) q → Later v u q
-later-of v u q f = record { near = record { low = low v q (f .above); high = high v q (f .below) }; half = half v q (f .above) }
+later-of v u q f = record { within-half = record { low = low v q (f .above); high = high v q (f .below) }; half = half v q (f .above) }
   where
     low : (v q : ℤ) → (pos 2 *ℤ v +ℤ pos u) <ℤ (q *ℤ pos (2 * u) +ℤ pos (2 * u)) → (pos 2 *ℤ v) ≤ℤ (pos 2 *ℤ (q *ℤ pos u) +ℤ pos u)
     low = split _ λ a b. split _ λ c d. simp diff (omega arith)
@@ -119,14 +119,14 @@ later-is : (v : ℤ) (u : ℕ) → 0 < u → Later v u (later v u)
 unfolding later
 later-is v u h = later-of v u (floor (pos 2 *ℤ v +ℤ pos u) (2 * u)) (floor-is (pos 2 *ℤ v +ℤ pos u) (2 * u) (twice-pos u h))
 
--- ---- of two fractions, in order, whose near numbers are not, both are the half between the two numbers
+-- ---- of two fractions, in order, whose nearest numbers are not, both are the half between the two numbers
 pub record Between (v w : ℤ) (u : ℕ) (p q : ℤ) : Type 0 where
   pub same : v ≡ w
   pub under : Under v u p
   pub over : Over w u q
   pub next : p ≡ q +ℤ pos 1
 
-between : (v w : ℤ) (u : ℕ) (p q : ℤ) → 0 < u → Near v u p → Near w u q → v ≤ℤ w → q <ℤ p → Between v w u p q
+between : (v w : ℤ) (u : ℕ) (p q : ℤ) → 0 < u → WithinHalf v u p → WithinHalf w u q → v ≤ℤ w → q <ℤ p → Between v w u p q
 between v w u p q h m n k l = record {
   same = same v w p q (m .high) (n .low) k l;
   under = under v w p q (m .high) (n .low) k l;
@@ -169,18 +169,18 @@ even-next = split _ λ a b. simp diff (λ n. omega arith)
 -- ---- a larger fraction's is no smaller, and so there is only one
 module _ (v w : ℤ) (u : ℕ) (p q : ℤ) (h : 0 < u) (k : v ≤ℤ w) where
   earlier-order : Earlier v u p → Earlier w u q → p ≤ℤ q
-  earlier-order m n = ordered p q (λ l. m .half (between v w u p q h (m .near) (n .near) k l .under))
+  earlier-order m n = ordered p q (λ l. m .half (between v w u p q h (m .within-half) (n .within-half) k l .under))
 
   even-order : Even v u p → Even w u q → p ≤ℤ q
   even-order m n = ordered p q (λ l.
-      let b = between v w u p q h (m .near) (n .near) k l in
+      let b = between v w u p q h (m .within-half) (n .within-half) k l in
       odd-next q (n .over (b .over)) (subst (λ z. natAbs z % 2 ≡ 0) (b .next) (m .under (b .under))))
 
 even-is′ : (v : ℤ) (u : ℕ) → 0 < u → (e l : ℤ) → Earlier v u e → Later v u l → Even v u (cond (isEven e) e l)
 even-is′ v u h e l m n = go (isEven e) refl
   where
     before : (v l : ℤ) → Under v u l → Earlier v u (l -ℤ pos 1)
-    before v l k = record { near = record { low = low v l k; high = high v l k }; half = half v l k }
+    before v l k = record { within-half = record { low = low v l k; high = high v l k }; half = half v l k }
       where
         low : (v l : ℤ) → Under v u l → (pos 2 *ℤ v) ≤ℤ (pos 2 *ℤ ((l -ℤ pos 1) *ℤ pos u) +ℤ pos u)
         low = split _ λ a b. split _ λ c d. simp diff (omega arith)
@@ -192,9 +192,9 @@ even-is′ v u h e l m n = go (isEven e) refl
         half = split _ λ a b. split _ λ c d. simp diff (λ x y. omega arith)
 
     go : (t : Bool) → isEven e ≡ t → Even v u (cond t e l)
-    go true i = record { near = m .near; under = λ k. absurd (m .half k); over = λ k. eqb-true (natAbs e % 2) 0 i }
+    go true i = record { within-half = m .within-half; under = λ k. absurd (m .half k); over = λ k. eqb-true (natAbs e % 2) 0 i }
     go false i = record {
-      near = n .near;
+      within-half = n .within-half;
       under = λ k.
           let b = before v l k in
           let s : e ≡ l -ℤ pos 1 =
@@ -223,8 +223,8 @@ pub even-mono : (v w : ℤ) (u : ℕ) → 0 < u → v ≤ℤ w → even v u ≤�
 even-mono v w u h k = even-order v w u (even v u) (even w u) h k (even-is v u h) (even-is w u h)
 
 -- a whole number is its own
-own : (u : ℕ) → 0 < u → (r : ℤ) → Near (r *ℤ pos u) u r
-own u h r = record { low = under-sum r; high = under-sum r }
+whole : (u : ℕ) → 0 < u → (r : ℤ) → WithinHalf (r *ℤ pos u) u r
+whole u h r = record { low = under-sum r; high = under-sum r }
   where
     under-sum : (r : ℤ) → (pos 2 *ℤ (r *ℤ pos u)) ≤ℤ (pos 2 *ℤ (r *ℤ pos u) +ℤ pos u)
     under-sum = split _ λ a b. simp diff (omega arith)
@@ -236,7 +236,7 @@ pub even-own : (u : ℕ) (r : ℤ) → 0 < u → even (r *ℤ pos u) u ≡ r
 even-own u r h =
     even-only (r *ℤ pos u) u r h
     (record {
-      near = own u h r;
+      within-half = whole u h r;
       under = λ k. absurd (no-half u h (pos 2 *ℤ (r *ℤ pos u)) k);
       over = λ k. absurd
           (no-half u h (pos 2 *ℤ (r *ℤ pos u)) k);
@@ -250,8 +250,8 @@ pub even-upto : (v : ℤ) (u : ℕ) (r : ℤ) → 0 < u → v ≤ℤ (r *ℤ pos
 even-upto v u r h k = subst (λ z. even v u ≤ℤ z) (even-own u r h) (even-mono v (r *ℤ pos u) u h k)
 
 -- ---- the mirror image's is the mirror image
-near-neg : (v : ℤ) (u : ℕ) (r : ℤ) → Near v u r → Near (negℤ v) u (negℤ r)
-near-neg v u r m = record { low = low v r (m .high); high = high v r (m .low) }
+within-half-neg : (v : ℤ) (u : ℕ) (r : ℤ) → WithinHalf v u r → WithinHalf (negℤ v) u (negℤ r)
+within-half-neg v u r m = record { low = low v r (m .high); high = high v r (m .low) }
   where
     low : (v r : ℤ) → (pos 2 *ℤ (r *ℤ pos u)) ≤ℤ (pos 2 *ℤ v +ℤ pos u) → (pos 2 *ℤ negℤ v) ≤ℤ (pos 2 *ℤ (negℤ r *ℤ pos u) +ℤ pos u)
     low = split _ λ a b. split _ λ c d. simp diff (omega arith)
@@ -270,7 +270,7 @@ even-neg v u h =
     let m = even-is v u h in
     even-only (negℤ v) u (negℤ (even v u)) h
     (record {
-      near = near-neg v u (even v u) (m .near);
+      within-half = within-half-neg v u (even v u) (m .within-half);
       under = λ k. parity (even v u) (m .over (over-neg u v (even v u) k));
       over = λ k. parity (even v u) (m .under (under-neg u v (even v u) k));
     })
@@ -284,15 +284,15 @@ pub even-nat : (a u n : ℕ) → 0 < u → 2 * a ≤ 2 * (n * u) + u → 2 * (n 
     (2 * a ≡ 2 * (n * u) + u → n % 2 ≡ 0)
     → even (pos a) u ≡ pos n
 even-nat a u n h low high under over = even-only (pos a) u (pos n) h (record {
-  near = record { low = record { le = le→leb (2 * a) (2 * (n * u) + u) low }; high = record { le = le→leb (2 * (n * u)) (2 * a + u) high } };
+  within-half = record { low = record { le = le→leb (2 * a) (2 * (n * u) + u) low }; high = record { le = le→leb (2 * (n * u)) (2 * a + u) high } };
   under = λ k. under (ap natAbs k);
   over = λ k. over (ap natAbs k);
 })
 
 -- the same fraction, by a larger unit
 module _ (a u c : ℕ) (h : 0 < u) (k : 0 < c) where
-  near-scale : (r : ℤ) → Near (pos a) u r → Near (pos (a * c)) (u * c) r
-  near-scale r m = record { low = low r (m .low); high = high r (m .high) }
+  within-half-scale : (r : ℤ) → WithinHalf (pos a) u r → WithinHalf (pos (a * c)) (u * c) r
+  within-half-scale r m = record { low = low r (m .low); high = high r (m .high) }
     where
       low : (r : ℤ) → (pos 2 *ℤ pos a) ≤ℤ (pos 2 *ℤ (r *ℤ pos u) +ℤ pos u) → (pos 2 *ℤ pos (a * c)) ≤ℤ (pos 2 *ℤ (r *ℤ pos (u * c)) +ℤ pos (u * c))
       low = split _ λ p q. simp diff (λ e. omega (arith, mul-le-mul-right c e))
@@ -311,7 +311,7 @@ module _ (a u c : ℕ) (h : 0 < u) (k : 0 < c) where
       let r = even (pos a) u in
       let m = even-is (pos a) u h in
       even-only (pos (a * c)) (u * c) r (mul-pos h k)
-      (record { near = near-scale r (m .near); under = λ e. m .under (under-scale r e); over = λ e. m .over (over-scale r e) })
+      (record { within-half = within-half-scale r (m .within-half); under = λ e. m .under (under-scale r e); over = λ e. m .over (over-scale r e) })
 
 -- ---- known values: 5/2 and 7/2, -5/2 and -7/2, and 9/4
 pub known-even : (even (pos 5) 2 ≡ pos 2) × (even (pos 7) 2 ≡ pos 4) × (even (negsuc 4) 2 ≡ negsuc 1) ×

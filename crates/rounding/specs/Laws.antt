@@ -1,4 +1,4 @@
--- Laws of written times and prices. A time is a whole number at most half a sample away (`time-near`), a whole number is its own (`time-own`),
+-- Laws of written times and prices. A time is a whole number at most half a sample away (`time-within-half`), a whole number is its own (`time-own`),
 -- the order stays (`time-order`), and so does a whole window (`time-within`); what is out of range is in no window (`time-off`). A price is in range.
 use mathlib.Core.Path.{_≡_, refl, sym, ap, ap₂, _∙_, subst}
 use mathlib.Core.Logic.{_⊎_, inl, inr, ⊎-elim}
@@ -23,9 +23,9 @@ use Rattle.arith.specs.Float.{at}
 use Rattle.arith.specs.Scalar.{isFinite}
 use Rattle.vector.specs.Vector.{allFinite}
 use Rattle.vector.specs.Laws.{finite-all}
-use Rattle.nearest.specs.Whole.{Near}
+use Rattle.nearest.specs.Whole.{WithinHalf}
 use Rattle.nearest.specs.Value.{one, units, fromℤ, lt-whole, less}
-use Rattle.nearest.specs.Nearest.{nearest, nearest-near, nearest-own, nearest-mono, nearest-within, nearest-from, nearest-upto}
+use Rattle.nearest.specs.Nearest.{nearest, nearest-within-half, nearest-own, nearest-mono, nearest-within, nearest-from, nearest-upto}
 use Rattle.nearest.specs.Reach.{rounded, reach-finite, unreached, whole-is, far-is}
 use Rattle.nearest.specs.declared.Rounded.the-variants.{Whole, Far}
 use Rattle.block.specs.Ranges.{maxTime, maxPrice, Timed}
@@ -35,9 +35,9 @@ use Rattle.rounding.specs.declared.Time.the-variants.{At, Off}
 
 -- ---- a time
 -- 2 × |x − time| ≤ 1
-pub time-near : (x : Float) → Near (units x) one (timeOf x)
+pub time-within-half : (x : Float) → WithinHalf (units x) one (timeOf x)
 unfolding timeOf
-time-near x = nearest-near x
+time-within-half x = nearest-within-half x
 
 pub time-own : (z : ℤ) → natAbs z ≤ 2 ^ 53 → timeOf (fromℤ z) ≡ z
 unfolding timeOf
