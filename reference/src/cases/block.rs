@@ -330,7 +330,7 @@ pub fn halves(rng: &mut Rng) -> Block {
 }
 
 /// Terms so strong that an anchor's price, or that of a small cap, leaves its range.
-pub fn dear(rng: &mut Rng) -> Block {
+pub fn large_prices(rng: &mut Rng) -> Block {
     let words = rng.int(2, 3) as usize;
     let mut block = Block::default();
     for _ in 0..words {

@@ -1,7 +1,7 @@
 //! The fixed lists of blocks: the service's whole answers, and the reader with the check.
 
 use super::attempt::Attempt;
-use super::block::{dear, degenerate, halves, limits, realistic, tightened, tiny};
+use super::block::{degenerate, halves, large_prices, limits, realistic, tightened, tiny};
 use super::code::Encoder;
 use super::damage;
 use super::known;
@@ -82,8 +82,8 @@ const GROUPS: [Group; 10] = [
         refused: 0,
     },
     Group {
-        name: "dear",
-        family: dear,
+        name: "large prices",
+        family: large_prices,
         solved: 40,
         refused: 5,
     },

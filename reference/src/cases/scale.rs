@@ -2,7 +2,7 @@
 
 use super::attempt::Attempt;
 use super::block::{
-    binding, dear, degenerate, halves, limits, out_of_reach, realistic, ties, tiny,
+    binding, degenerate, halves, large_prices, limits, out_of_reach, realistic, ties, tiny,
 };
 use super::damage;
 use super::slips::{equal_rates, over_slacks, stopped_at_once};
@@ -67,8 +67,8 @@ const PLACES: [Family; 13] = [
         let slip: fn(&mut Rng) -> Block = rng.pick(&[over_slacks, stopped_at_once, equal_rates]);
         write(&slip(rng))
     }),
-    ("halves and dear", 4, |rng| {
-        let family: fn(&mut Rng) -> Block = rng.pick(&[halves, dear]);
+    ("halves and large prices", 4, |rng| {
+        let family: fn(&mut Rng) -> Block = rng.pick(&[halves, large_prices]);
         write(&family(rng))
     }),
     ("limits", 2, |rng| write(&limits(rng))),
@@ -136,7 +136,7 @@ fn good(rng: &mut Rng) -> Block {
         40..=69 => realistic(rng, words),
         70..=89 => degenerate(rng, words),
         90..=92 => halves(rng),
-        93..=95 => dear(rng),
+        93..=95 => large_prices(rng),
         96 => equal_rates(rng),
         97 => stopped_at_once(rng),
         _ => limits(rng),
