@@ -1,7 +1,7 @@
 //! A block's text: each file, good, damaged or arbitrary, comes back from it.
 
 use reference::block::{self, Block, write};
-use reference::cases::block::{dear, degenerate, halves, limits, realistic, tiny};
+use reference::cases::block::{degenerate, halves, large_prices, limits, realistic, tiny};
 use reference::cases::damage;
 use reference::rng::Rng;
 use reference::text::{make, show};
@@ -22,7 +22,7 @@ fn good_blocks_come_back() {
         },
         |rng| degenerate(rng, 6),
         halves,
-        dear,
+        large_prices,
         limits,
     ];
     for family in families {
