@@ -19,7 +19,7 @@ pub listing-enough : (s : List ℕ) → listing s ≡ listing (take enough s)
 unfolding listing
 listing-enough s = ap ofRead (read-enough s)
 
--- so the first n bytes of a list that has room for as many tell the listing of whatever file they are all that the list can hold of
+-- so the first n bytes of `kept` tell the listing of every file of which they are all that `kept` has room for
 pub listing-kept : (file kept : List ℕ) (n : ℕ) → length kept ≡ enough → take (length kept) file ≡ take n kept → listing (take n kept) ≡ listing file
 listing-kept file kept n l e = ap listing (sym e) ∙ ap (λ (k : ℕ). listing (take k file)) l ∙ sym (listing-enough file)
 
