@@ -5,20 +5,19 @@ use mathlib.Core.List.{List}
 use Prim.Native.Nat.{ℕ, _+_, _-_, _<_, _≤_}
 use lib.Ieee.{Float}
 use lib.ListN.{length}
-use Rattle.folds.specs.Run.{more, done, run, run-all, run-more, run-done, run-spent}
+use Rattle.folds.specs.Run.{more, run, run-all, run-more, run-done, run-spent}
 use Rattle.segments.specs.declared.Segments.{Segments}
 use Rattle.iterate.specs.Problem.{Problem, problem, Room}
 use Rattle.iterate.specs.declared.Iterate.{Iterate}
 use Rattle.factoring.specs.declared.Factoring.{Factoring}
 use Rattle.factoring.specs.Kept.{new}
-use Rattle.free_pass.specs.declared.Made.{Made}
-use Rattle.free_pass.specs.FreePass.{State, state, madeOf}
+use Rattle.pass.specs.declared.Made.{Made}
+use Rattle.pass.specs.State.{State, state, madeOf, made-beside}
 use Rattle.pass.specs.Pass.{pass}
-use Rattle.free_pass.specs.Laws.{made-beside}
 use Rattle.active.specs.declared.Answer as Declared
 use Rattle.active.specs.declared.Verdict.the-variants.{NotConverged}
 use Rattle.active.specs.Answer.{Answer, answerOf}
-use Rattle.active.specs.Active.{counted, step, goesOn, Ends, spent, budget, passes}
+use Rattle.active.specs.Active.{step, goesOn, Ends, spent, budget, passes}
 use Rattle.active.specs.Laws.{counted-more, answerOf-notConverged}
 
 unfoldable pub Left : Problem → (segments : List Segments) (fixed : List Bool) (qAmax linear : Float) (made : ℕ) (s : State) → Answer
@@ -50,28 +49,22 @@ module _ (originals n m : ℕ) (q c e b : List Float) (segments : List Segments)
       unfolding Left step
       ended a f = run-done _ _ (budget n) made s under (rw (← gave, made-beside) (f n m (t .factoring) l)) ∙ left
 
--- ---- work memory of the same lengths
-pub same-room : {originals n m : ℕ} {room qFree eFree gram ks es left coefficients range qq null h vectors
-    room′ qFree′ eFree′ gram′ ks′ es′ left′ coefficients′ range′ qq′ null′ h′ vectors′ : List Float} →
-    Room originals n m room qFree eFree gram ks es left coefficients range qq null h vectors →
-    length room′ ≡ length room → length qFree′ ≡ length qFree → length eFree′ ≡ length eFree → length gram′ ≡ length gram → length ks′ ≡ length ks →
-    length es′ ≡ length es → length left′ ≡ length left → length coefficients′ ≡ length coefficients → length range′ ≡ length range →
-    length qq′ ≡ length qq → length null′ ≡ length null → length h′ ≡ length h → length vectors′ ≡ length vectors →
-    Room originals n m room′ qFree′ eFree′ gram′ ks′ es′ left′ coefficients′ range′ qq′ null′ h′ vectors′
-same-room r e0 e1 e2 e3 e4 e5 e6 e7 e8 e9 e10 e11 e12 =
+-- ---- the slices that each pass is lent keep their lengths
+pub record Same (room qFree eFree gram l room₀ qFree₀ eFree₀ gram₀ l₀ : List Float) : Type 0 where
+  pub of-room : length room ≡ length room₀
+  pub of-q : length qFree ≡ length qFree₀
+  pub of-e : length eFree ≡ length eFree₀
+  pub of-gram : length gram ≡ length gram₀
+  pub of-l : length l ≡ length l₀
+
+pub same-room : {originals n m : ℕ} {room qFree eFree gram l room₀ qFree₀ eFree₀ gram₀ l₀ : List Float} →
+    Same room qFree eFree gram l room₀ qFree₀ eFree₀ gram₀ l₀ → Room originals n m room₀ qFree₀ eFree₀ gram₀ →
+    Room originals n m room qFree eFree gram
+same-room s r =
     record {
-      rows = rw e0 (r .rows);
-      columns = rw e0 (r .columns);
-      q-free = rw e1 (r .q-free);
-      e-free = rw e2 (r .e-free);
-      gram-room = rw e3 (r .gram-room);
-      ks-room = rw e4 (r .ks-room);
-      es-room = rw e5 (r .es-room);
-      left-room = rw e6 (r .left-room);
-      coefficients-room = rw e7 (r .coefficients-room);
-      range-room = rw e8 (r .range-room);
-      qq-room = rw e9 (r .qq-room);
-      null-room = rw e10 (r .null-room);
-      h-room = rw e11 (r .h-room);
-      vectors-room = rw e12 (r .vectors-room);
+      rows = rw (s .of-room) (r .rows);
+      columns = rw (s .of-room) (r .columns);
+      q-free = rw (s .of-q) (r .q-free);
+      e-free = rw (s .of-e) (r .e-free);
+      gram-room = rw (s .of-gram) (r .gram-room);
     }

@@ -15,7 +15,7 @@ use Rattle.iterate.specs.declared.Iterate.{Iterate}
 use Rattle.iterate.specs.declared.Ending.{Ending}
 use Rattle.iterate.specs.declared.Ending.the-variants as Ending
 use Rattle.iterate.specs.declared.Passed.{Passed}
-use Rattle.free_pass.specs.FreePass.{State, state, beside}
+use Rattle.pass.specs.State.{State, state, beside}
 use Rattle.pass.specs.Pass.{pass}
 use Rattle.active.specs.declared.Answer as Declared
 use Rattle.active.specs.Answer.{Answer, optimal, nonFinite, singular, unbounded, notConverged, answerOf}

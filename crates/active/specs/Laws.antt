@@ -21,9 +21,8 @@ use Rattle.iterate.specs.declared.Iterate.{Iterate}
 use Rattle.iterate.specs.declared.Ending.{Ending}
 use Rattle.iterate.specs.declared.Ending.the-variants as Ending
 use Rattle.iterate.specs.declared.Passed.{Passed}
-use Rattle.free_pass.specs.FreePass.{State, state, beside}
+use Rattle.pass.specs.State.{State, state, beside, beside-more, beside-done}
 use Rattle.pass.specs.Pass.{pass}
-use Rattle.free_pass.specs.Laws.{beside-more, beside-done}
 use Rattle.active.specs.declared.Verdict.{Verdict}
 use Rattle.active.specs.declared.Verdict.the-variants.{Optimal, NonFiniteCovariance, SingularCovariance, Unbounded, NotConverged}
 use Rattle.active.specs.declared.Answer as Declared

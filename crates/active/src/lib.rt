@@ -11,8 +11,10 @@ ghost use Rattle.iterate.specs.Iterate.{Kept};
 ghost use Rattle.active.specs.Answer.{answerOf};
 ghost use Rattle.active.specs.Active as Definition;
 use factoring::Factoring;
+use iterate::Counts;
 use iterate::Ending;
 use iterate::Iterate;
+use iterate::Magnitudes;
 use iterate::Passed;
 use segments::Segments;
 
@@ -91,37 +93,25 @@ pub fn passes(
     c: &[f64],
     e: &[f64],
     b: &[f64],
-    n: usize,
-    m: usize,
-    originals: usize,
-    q_amax: f64,
-    linear: f64,
+    counts: Counts,
+    magnitudes: Magnitudes,
     room: &mut [f64],
     q_free: &mut [f64],
     e_free: &mut [f64],
     gram: &mut [f64],
-    ks: &mut [f64],
-    es: &mut [f64],
-    left: &mut [f64],
-    coefficients: &mut [f64],
-    range: &mut [f64],
-    qq: &mut [f64],
-    null: &mut [f64],
-    h: &mut [f64],
-    vectors: &mut [f64],
     l: &mut [f64],
 ) -> Answer
-    requires { ⌜ Shaped originals n m (now q) (now c) (now e) (now b)
-        × AllCut n segments
-        × Kept n segments iterate
-        × (length (now fixed) ≡ n)
-        × Room originals n m (now room) (now «q_free») (now «e_free») (now gram) (now ks) (now es) (now left) (now coefficients) (now range)
-        (now qq) (now null) (now h) (now vectors)
-        × (originals * originals ≤ length (now l)) ⌝ }
-    ensures { λ r. ⌜ answerOf n m r
-        ≡ Definition.passes (problem originals n m (now (q .entry)) (now (c .entry)) (now (e .entry)) (now (b .entry))) segments
-        (now (fixed .entry)) «q_amax» linear iterate (now (l .entry)) ⌝ }
+    requires { ⌜ Shaped (counts .originals) (counts .n) (counts .m) (now q) (now c) (now e) (now b)
+        × AllCut (counts .n) segments
+        × Kept (counts .n) segments iterate
+        × (length (now fixed) ≡ counts .n)
+        × Room (counts .originals) (counts .n) (counts .m) (now room) (now «q_free») (now «e_free») (now gram)
+        × (counts .originals * counts .originals ≤ length (now l)) ⌝ }
+    ensures { λ r. ⌜ answerOf (counts .n) (counts .m) r
+        ≡ Definition.passes (problem (counts .originals) (counts .n) (counts .m) (now (q .entry)) (now (c .entry)) (now (e .entry)) (now (b .entry))) segments
+        (now (fixed .entry)) (magnitudes .q) (magnitudes .linear) iterate (now (l .entry)) ⌝ }
 {
+    let n = counts.n;
     let mut at = iterate;
     let mut factoring = Factoring::new();
     for made in 0..100 + 20 * n {
@@ -134,24 +124,12 @@ pub fn passes(
             c,
             e,
             b,
-            n,
-            m,
-            originals,
-            q_amax,
-            linear,
+            counts,
+            magnitudes,
             room,
             q_free,
             e_free,
             gram,
-            ks,
-            es,
-            left,
-            coefficients,
-            range,
-            qq,
-            null,
-            h,
-            vectors,
             l,
         );
         let passed = step.passed;

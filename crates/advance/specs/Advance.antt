@@ -11,13 +11,13 @@ use Rattle.folds.specs.Run.{Pass, more, done}
 use Rattle.sizes.specs.Sizes as Sizes
 use Rattle.arith.specs.Float.{fadd, fmul, f0}
 use Rattle.arith.specs.Scalar.{max}
-use Rattle.vector.specs.Vector.{amax, sub, filled}
+use Rattle.vector.specs.Vector.{Below, amax, sub, filled}
 use Rattle.matrix.specs.Matrix.{mulVec, index}
-use Rattle.segments.specs.Segments.{segmentsAt}
+use Rattle.segments.specs.Segments.{segmentsAt, stateAt, AllPlaced}
 use Rattle.segments.specs.Freeing.{freeAll}
 use Rattle.segments.specs.declared.Segments.{Segments}
 use Rattle.segments.specs.declared.State.the-variants.{Free}
-use Rattle.free_list.specs.FreeList.{freeSegments}
+use Rattle.lent_segments.specs.Lent.{segmentOf}
 use Rattle.blocking.specs.Blocking.{block}
 use Rattle.blocking.specs.declared.Side.{Side}
 use Rattle.blocking.specs.declared.Released.{Released}
@@ -27,7 +27,7 @@ use Rattle.stepping.specs.Stepping.{moveAlong, settle, samePoint}
 use Rattle.releasing.specs.Release as Releasing
 use Rattle.releasing.specs.declared.Outcome.{Outcome}
 use Rattle.releasing.specs.declared.Outcome.the-variants.{Enter, Answer, NotConverged}
-use Rattle.iterate.specs.Iterate.{Result, optimal, notConverged, passedOf}
+use Rattle.iterate.specs.Iterate.{Result, optimal, notConverged, passedOf, Kept}
 use Rattle.iterate.specs.declared.Iterate.{Iterate}
 use Rattle.iterate.specs.declared.Passed.{Passed}
 
@@ -43,6 +43,10 @@ pub record Shape (originals n m : ℕ) (q c e : List Float) : Type 0 where
 -- what the code leaves, whatever the number of columns
 abbrev pub Gives : (n : ℕ) (r : Passed) → Pass Iterate Result → Type 0
 Gives n r p = (m : ℕ) → passedOf n m r ≡ p
+
+-- and of variables
+abbrev pub Leaves : (r : Passed) → Pass Iterate Result → Type 0
+Leaves r p = (n : ℕ) → Gives n r p
 
 -- ---- `if solved.is_empty()`
 -- `fixed[..originals].iter().all(|&f| f)`
@@ -80,12 +84,17 @@ unfoldable pub withBoard : Iterate → Board → Released → Iterate
 withBoard i board released = record { board = board; released = released; freed = i .freed; «freed_at» = i .«freed_at» }
 
 -- `for k in 0..indices.len() { x[indices[k]] = (x_free[k] + step * direction[k]).clamp(lower[k], upper[k]); }`, and `block(..)` of the variable at k
-unfoldable pub stopped : (n : ℕ) (segments : List Segments) (indices : List ℕ) (xFree direction lower upper : List Float) (step : Float) (k : ℕ) →
+unfoldable pub stopped : (segments : List Segments) (indices : List ℕ) (xFree direction lower upper : List Float) (step : Float) (k : ℕ) →
     Side → Released → Board → Board
-stopped n segments indices xFree direction lower upper step k side released board =
+stopped segments indices xFree direction lower upper step k side released board =
     let i = index indices k in
-    block i side (segmentsAt segments i) step released (index (freeSegments n (board .state)) k)
+    block i side (segmentsAt segments i) step released (segmentOf (stateAt (board .state) i))
     (record { x = moveAlong indices xFree direction step lower upper (board .x); state = board .state; refused = board .refused })
+
+-- the variables, as many as there are, stay placed
+abbrev pub Keeps : (indices : List ℕ) (segments : List Segments) → Iterate → (r : Passed) → Type 0
+Keeps indices segments i r =
+    (n : ℕ) → Below (length indices) indices n → AllPlaced n segments (i .board .state) → Kept n segments (r .iterate)
 
 -- `released = None; continue;`
 unfoldable pub blocked : Iterate → Board → Pass Iterate Result

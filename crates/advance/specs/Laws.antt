@@ -1,19 +1,21 @@
 -- Laws of the definitions: where the step is blocked or made whole, and where a variable is released, each variable stays placed.
 use mathlib.Core.Path.{_≡_, sym, _∙_}
 use mathlib.Core.List.{List, map}
-use Prim.Native.Nat.{ℕ, _<_, _≤_}
+use Prim.Native.Nat.{ℕ, _<_}
 use native.Mathlib.Omega.{arith}
 use mathlib.Core.Bool.{Bool}
 use lib.ListN.{length, take, length-map}
 use lib.Ieee.{Float}
+use Rattle.sizes.specs.Sizes as Sizes
 use Rattle.vector.specs.Laws.{length-sub}
 use Rattle.matrix.specs.Matrix.{mulVec, index}
-use Rattle.segments.specs.Segments.{last, segmentsAt, AllCut, AllPlaced}
+use Rattle.segments.specs.Segments.{last, segmentsAt, stateAt, AllCut, AllPlaced}
 use Rattle.segments.specs.Laws.{set-placed, free-all-placed}
 use Rattle.segments.specs.declared.State.the-variants.{Free}
 use Rattle.segments.specs.declared.Segments.{Segments}
-use Rattle.free_list.specs.FreeList.{freeIndices, freeSegments}
-use Rattle.free_list.specs.Laws.{listed-below, listed-segment}
+use Rattle.lent_segments.specs.Lent.{segmentOf}
+use Rattle.lent_segments.specs.Laws.{free-in}
+use Rattle.free_list.specs.FreeList.{Listed}
 use Rattle.blocking.specs.Laws.{block-placed}
 use Rattle.blocking.specs.declared.Side.{Side}
 use Rattle.blocking.specs.declared.Released.{Released}
@@ -36,15 +38,15 @@ length-gradient n q c x = length-sub n (mulVec n n q x) c
 
 -- a variable that was free is held at an end of its segment
 pub stopped-placed : (n : ℕ) (segments : List Segments) (indices : List ℕ) (xFree direction lower upper : List Float) (step : Float) (k : ℕ)
-    (side : Side) (released : Released) (board : Board) → n ≤ length (board .state) → indices ≡ freeIndices n (board .state) → k < length indices →
-    AllPlaced n segments (board .state) →
-    AllPlaced n segments (stopped n segments indices xFree direction lower upper step k side released board .state)
+    (side : Side) (released : Released) (board : Board) → length (board .state) ≡ Sizes.variables → Listed indices segments (board .state) →
+    k < length indices → index indices k < n → AllPlaced n segments (board .state) →
+    AllPlaced n segments (stopped segments indices xFree direction lower upper step k side released board .state)
 unfolding stopped
-stopped-placed n segments indices xFree direction lower upper step k side released board few e h placed =
-    let below = listed-below n (board .state) e k h in
-    block-placed n segments (index indices k) side step released (index (freeSegments n (board .state)) k)
+stopped-placed n segments indices xFree direction lower upper step k side released board long listed h below placed =
+    let i = index indices k in
+    block-placed n segments i side step released (segmentOf (stateAt (board .state) i))
     (record { x = moveAlong indices xFree direction step lower upper (board .x); state = board .state; refused = board .refused })
-    below (omega arith) (listed-segment n (board .state) e k h) placed
+    below (omega (arith, listed .below k h, long)) (free-in _ (listed .inside k h .free)) placed
 
 -- the whole step leaves the active set
 pub settled-placed : (n : ℕ) (segments : List Segments) (indices : List ℕ) (target lower upper : List Float) (tolerance : Float) (board : Board) →

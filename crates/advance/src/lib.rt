@@ -3,8 +3,10 @@
 use blocking::Board;
 use blocking::Released;
 use blocking::Side;
+use iterate::Counts;
 use iterate::Ending;
 use iterate::Iterate;
+use iterate::Magnitudes;
 use iterate::Passed;
 use releasing::Outcome;
 use segments::Segments;
@@ -17,7 +19,7 @@ ghost use Rattle.folds.specs.Fold.{over};
 ghost use Rattle.sizes.specs.Sizes as Sizes;
 ghost use Rattle.vector.specs.Vector.{Below};
 ghost use Rattle.segments.specs.Segments.{AllCut, AllPlaced};
-ghost use Rattle.free_list.specs.FreeList.{freeIndices};
+ghost use Rattle.free_list.specs.FreeList.{Listed};
 ghost use Rattle.blocking.specs.Blocking.{Entries};
 ghost use Rattle.iterate.specs.Iterate.{passedOf, Kept};
 ghost use Rattle.advance.specs.Advance as Advance;
@@ -116,7 +118,6 @@ fn with_board(iterate: Iterate, board: Board, released: Released) -> Iterate
 fn stopped(
     board: Board,
     segments: [Segments; sizes::VARIABLES],
-    n: usize,
     indices: &[usize],
     x_free: &[f64],
     direction: &[f64],
@@ -127,31 +128,25 @@ fn stopped(
     side: Side,
     released: Released,
 ) -> Board
-    requires { ⌜ (n ≤ Sizes.variables)
-        × AllCut n segments
-        × AllPlaced n segments (board .state)
-        × (now indices ≡ freeIndices n (board .state))
+    requires { ⌜ Listed (now indices) segments (board .state)
         × Entries (length (now indices)) (now «x_free») (now direction) (now lower) (now upper)
         × (k < length (now indices)) ⌝ }
     ensures { λ r. ⌜ r
-        ≡ Advance.stopped n segments (now (indices .entry)) (now («x_free» .entry)) (now (direction .entry)) (now (lower .entry)) (now (upper .entry))
+        ≡ Advance.stopped segments (now (indices .entry)) (now («x_free» .entry)) (now (direction .entry)) (now (lower .entry)) (now (upper .entry))
         step k side released board ⌝ }
-    ensures { λ r. ⌜ AllPlaced n segments (r .state) ⌝ }
 {
     let mut x = board.x;
     stepping::move_along(&mut x, indices, x_free, direction, step, lower, upper);
     let mut moved = board;
     moved.x = x;
     let i = indices[k];
-    let s = lent_segments::segment(segments, i);
-    blocking::block(moved, i, side, s, step, released)
+    lent_segments::block_of(moved, i, side, segments, step, released)
 }
 
 // The same, with what the pass before released forgotten.
 pub fn blocked(
     iterate: Iterate,
     segments: [Segments; sizes::VARIABLES],
-    n: usize,
     indices: &[usize],
     x_free: &[f64],
     direction: &[f64],
@@ -161,24 +156,20 @@ pub fn blocked(
     k: usize,
     side: Side,
 ) -> Passed
-    requires { ⌜ (n ≤ Sizes.variables)
-        × AllCut n segments
-        × AllPlaced n segments (iterate .board .state)
-        × (now indices ≡ freeIndices n (iterate .board .state))
+    requires { ⌜ Listed (now indices) segments (iterate .board .state)
         × Entries (length (now indices)) (now «x_free») (now direction) (now lower) (now upper)
         × (k < length (now indices)) ⌝ }
-    ensures { λ r. ⌜ Advance.Gives n r
+    ensures { λ r. ⌜ Advance.Leaves r
         (Advance.blocked iterate
-        (Advance.stopped n segments (now (indices .entry)) (now («x_free» .entry)) (now (direction .entry)) (now (lower .entry)) (now (upper .entry))
+        (Advance.stopped segments (now (indices .entry)) (now («x_free» .entry)) (now (direction .entry)) (now (lower .entry)) (now (upper .entry))
         step k side (iterate .released) (iterate .board))) ⌝ }
-    ensures { λ r. ⌜ Kept n segments (r .iterate) ⌝ }
+    ensures { λ r. ⌜ Advance.Keeps (now (indices .entry)) segments iterate r ⌝ }
 {
     let board = iterate.board;
     let released = iterate.released;
     let next = stopped(
         board,
         segments,
-        n,
         indices,
         x_free,
         direction,
@@ -233,13 +224,14 @@ fn gradient_at(q: &[f64], c: &[f64], n: usize, x: &[f64], gradient: &mut [f64])
     vector::sub(&qx[..n], c, n, gradient);
 }
 
-// The size of the terms that the multipliers are differences of. `q_amax` is q.amax(), `linear` is c.amax().max(slope_amax).
-fn scale(q_amax: f64, linear: f64, x: &[f64], originals: usize, pushback: &[f64], n: usize) -> f64
+// The size of the terms that the multipliers are differences of. The magnitudes are q.amax() and c.amax().max(slope_amax).
+fn scale(magnitudes: Magnitudes, x: &[f64], originals: usize, pushback: &[f64], n: usize) -> f64
     requires { ⌜ (originals ≤ length (now x)) × (n ≤ length (now pushback)) ⌝ }
-    ensures { λ r. ⌜ r ≡ Advance.scale «q_amax» linear originals (now (x .entry)) n (now (pushback .entry)) ⌝ }
+    ensures { λ r. ⌜ r
+        ≡ Advance.scale (magnitudes .q) (magnitudes .linear) originals (now (x .entry)) n (now (pushback .entry)) ⌝ }
 {
     arith::max(
-        q_amax * vector::amax(x, originals) + linear,
+        magnitudes.q * vector::amax(x, originals) + magnitudes.linear,
         vector::amax(pushback, n),
     )
 }
@@ -252,22 +244,22 @@ fn release(
     q: &[f64],
     c: &[f64],
     e: &[f64],
-    n: usize,
-    m: usize,
-    originals: usize,
-    q_amax: f64,
-    linear: f64,
+    counts: Counts,
+    magnitudes: Magnitudes,
     multipliers: &[f64],
 ) -> Outcome
-    requires { ⌜ Shape originals n m (now q) (now c) (now e)
-        × AllCut n segments
-        × AllPlaced n segments (board .state)
-        × (n ≤ length (now fixed))
-        × (m ≤ length (now multipliers)) ⌝ }
+    requires { ⌜ Shape (counts .originals) (counts .n) (counts .m) (now q) (now c) (now e)
+        × AllCut (counts .n) segments
+        × AllPlaced (counts .n) segments (board .state)
+        × (counts .n ≤ length (now fixed))
+        × (counts .m ≤ length (now multipliers)) ⌝ }
     ensures { λ r. ⌜ r
-        ≡ Advance.release originals n m (now (q .entry)) (now (c .entry)) (now (e .entry)) segments (now (fixed .entry)) «q_amax» linear
-        (now (multipliers .entry)) board ⌝ }
+        ≡ Advance.release (counts .originals) (counts .n) (counts .m) (now (q .entry)) (now (c .entry)) (now (e .entry)) segments
+        (now (fixed .entry)) (magnitudes .q) (magnitudes .linear) (now (multipliers .entry)) board ⌝ }
 {
+    let originals = counts.originals;
+    let n = counts.n;
+    let m = counts.m;
     let x = board.x;
     let state = board.state;
     let refused = board.refused;
@@ -275,7 +267,7 @@ fn release(
     gradient_at(q, c, n, &x[..n], &mut gradient);
     let mut pushback = [0.0; sizes::VARIABLES];
     matrix::mul_vec(e, n, m, multipliers, &mut pushback);
-    let scale = scale(q_amax, linear, &x[..n], originals, &pushback[..n], n);
+    let scale = scale(magnitudes, &x[..n], originals, &pushback[..n], n);
     releasing::release(
         segments,
         state,
@@ -308,24 +300,22 @@ pub fn decided(
     q: &[f64],
     c: &[f64],
     e: &[f64],
-    n: usize,
-    m: usize,
-    originals: usize,
-    q_amax: f64,
-    linear: f64,
+    counts: Counts,
+    magnitudes: Magnitudes,
     multipliers: [f64; sizes::COLUMNS],
 ) -> Passed
-    requires { ⌜ Shape originals n m (now q) (now c) (now e)
-        × AllCut n segments
-        × AllPlaced n segments (board .state)
-        × Kept n segments iterate
-        × (n ≤ length (now fixed)) ⌝ }
-    ensures { λ r. ⌜ passedOf n m r
-        ≡ Advance.decided n iterate board (take m multipliers)
-        (Advance.release originals n m (now (q .entry)) (now (c .entry)) (now (e .entry)) segments (now (fixed .entry)) «q_amax» linear
-        (take m multipliers) board) ⌝ }
-    ensures { λ r. ⌜ Kept n segments (r .iterate) ⌝ }
+    requires { ⌜ Shape (counts .originals) (counts .n) (counts .m) (now q) (now c) (now e)
+        × AllCut (counts .n) segments
+        × AllPlaced (counts .n) segments (board .state)
+        × Kept (counts .n) segments iterate
+        × (counts .n ≤ length (now fixed)) ⌝ }
+    ensures { λ r. ⌜ passedOf (counts .n) (counts .m) r
+        ≡ Advance.decided (counts .n) iterate board (take (counts .m) multipliers)
+        (Advance.release (counts .originals) (counts .n) (counts .m) (now (q .entry)) (now (c .entry)) (now (e .entry)) segments
+        (now (fixed .entry)) (magnitudes .q) (magnitudes .linear) (take (counts .m) multipliers) board) ⌝ }
+    ensures { λ r. ⌜ Kept (counts .n) segments (r .iterate) ⌝ }
 {
+    let m = counts.m;
     let released = iterate.released;
     let outcome = release(
         board,
@@ -334,11 +324,8 @@ pub fn decided(
         q,
         c,
         e,
-        n,
-        m,
-        originals,
-        q_amax,
-        linear,
+        counts,
+        magnitudes,
         &multipliers[..m],
     );
     match outcome {

@@ -5,10 +5,11 @@ use segments::State;
 ghost use mathlib.Core.Path.{_≡_};
 ghost use Prim.Native.Nat.{_≤_, _<_};
 ghost use lib.ListN.{length};
+ghost use Rattle.folds.specs.Best.{better};
 ghost use Rattle.sizes.specs.Sizes as Sizes;
 ghost use Rattle.segments.specs.Segments.{Cut, IsFree, Placed, stateAt};
 ghost use Rattle.blocking.specs.Blocking as Blocking;
-ghost use Rattle.blocking.specs.Blocking.{Entries, Blocked};
+ghost use Rattle.blocking.specs.Blocking.{asBest, shorter, Entries, Blocked};
 
 const ROUNDING: f64 = 1e-12;
 
@@ -26,7 +27,7 @@ pub enum Hit {
 
 // Of two, the one with the smaller step, and the first where they are equal.
 fn min_by(best: Hit, other: Hit) -> Hit
-    ensures { λ r. ⌜ r ≡ Blocking.minBy best other ⌝ }
+    ensures { λ r. ⌜ asBest r ≡ better shorter (asBest best) (asBest other) ⌝ }
 {
     let Hit::Found(t, _, _) = other else {
         return best;

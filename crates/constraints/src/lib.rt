@@ -11,6 +11,7 @@ ghost use Rattle.vector.specs.Vector.{Below};
 ghost use Rattle.matrix.specs.Matrix as Matrix;
 ghost use Rattle.pivoting.specs.Pivoting.{Taken};
 ghost use Rattle.constraints.specs.Constraints as Definition;
+ghost use Rattle.constraints.specs.Room.{Room};
 
 // Qᵀ, of the reflections that `range` makes; `made` starts as false.
 fn q_transpose_in(
@@ -183,7 +184,7 @@ fn null_space(
 }
 
 // `Constraints::new`: Y, Z and T at the start of `range`, `null` and `coefficients`, and the columns taken; `left` and `q` are work memory.
-pub fn new(
+fn new_in(
     e: &[f64],
     n: usize,
     m: usize,
@@ -193,14 +194,7 @@ pub fn new(
     q: &mut [f64],
     null: &mut [f64],
 ) -> Pivots
-    requires { ⌜ (n * m ≤ length (now e))
-        × (n ≤ Sizes.originals)
-        × (m ≤ Sizes.columns)
-        × (n * m ≤ length (now left))
-        × (min n m * m ≤ length (now coefficients))
-        × (n * min n m ≤ length (now range))
-        × (n * n ≤ length (now q))
-        × (n * n ≤ length (now null)) ⌝ }
+    requires { ⌜ Room n m (now e) (now coefficients) (now range) (now null) × (n * m ≤ length (now left)) × (n * n ≤ length (now q)) ⌝ }
     ensures { λ r. ⌜ Definition.constraintsOf n m (now (range .exit)) (now (null .exit)) (now (coefficients .exit)) r
         ≡ Definition.new n m (now (e .entry)) ⌝ }
     ensures { λ r. ⌜ Taken (min n m) m r ⌝ }
@@ -222,6 +216,64 @@ pub fn new(
     let columns = n * rank;
     null_space(&range[..columns], n, rank, left, q, null);
     pivots
+}
+
+fn new_small(
+    e: &[f64],
+    n: usize,
+    m: usize,
+    coefficients: &mut [f64],
+    range: &mut [f64],
+    null: &mut [f64],
+) -> Pivots
+    requires { ⌜ Room n m (now e) (now coefficients) (now range) (now null) × (n ≤ Sizes.few) × (m ≤ Sizes.few) ⌝ }
+    ensures { λ r. ⌜ Definition.constraintsOf n m (now (range .exit)) (now (null .exit)) (now (coefficients .exit)) r
+        ≡ Definition.new n m (now (e .entry)) ⌝ }
+    ensures { λ r. ⌜ Taken (min n m) m r ⌝ }
+{
+    let mut left = [0.0; sizes::SMALL];
+    let mut q = [0.0; sizes::SMALL];
+    new_in(e, n, m, &mut left, coefficients, range, &mut q, null)
+}
+
+fn new_large(
+    e: &[f64],
+    n: usize,
+    m: usize,
+    coefficients: &mut [f64],
+    range: &mut [f64],
+    null: &mut [f64],
+) -> Pivots
+    requires { ⌜ Room n m (now e) (now coefficients) (now range) (now null) ⌝ }
+    ensures { λ r. ⌜ Definition.constraintsOf n m (now (range .exit)) (now (null .exit)) (now (coefficients .exit)) r
+        ≡ Definition.new n m (now (e .entry)) ⌝ }
+    ensures { λ r. ⌜ Taken (min n m) m r ⌝ }
+{
+    let mut left = [0.0; sizes::TALL];
+    let mut q = [0.0; sizes::SQUARE];
+    new_in(e, n, m, &mut left, coefficients, range, &mut q, null)
+}
+
+// The same in work memory of its size.
+pub fn new(
+    e: &[f64],
+    n: usize,
+    m: usize,
+    coefficients: &mut [f64],
+    range: &mut [f64],
+    null: &mut [f64],
+) -> Pivots
+    requires { ⌜ Room n m (now e) (now coefficients) (now range) (now null) ⌝ }
+    ensures { λ r. ⌜ Definition.constraintsOf n m (now (range .exit)) (now (null .exit)) (now (coefficients .exit)) r
+        ≡ Definition.new n m (now (e .entry)) ⌝ }
+    ensures { λ r. ⌜ Taken (min n m) m r ⌝ }
+{
+    if n <= sizes::FEW {
+        if m <= sizes::FEW {
+            return new_small(e, n, m, coefficients, range, null);
+        }
+    }
+    new_large(e, n, m, coefficients, range, null)
 }
 
 fn feasible_one(

@@ -9,6 +9,7 @@ use lib.Ieee.{Float}
 use Rattle.folds.specs.Fold.{all, over, pick, both, Out, out}
 use Rattle.folds.specs.Marks.{contains}
 use Rattle.sizes.specs.Sizes as Sizes
+use Rattle.vector.specs.Vector.{Below}
 use Rattle.matrix.specs.Matrix.{selectRows, selectColumns, index}
 use Rattle.triangular.specs.Triangular.{cholesky, positiveDefinite}
 use Rattle.triangular.specs.Pivots.{Sounds}
@@ -91,6 +92,11 @@ settled q n indices f (out false l) = afresh q n indices f l
 
 unfoldable pub update : (q : List Float) (n : ℕ) (indices : List ℕ) → Factoring → (l : List Float) → Factor
 update q n indices f l = settled q n indices f (lastUpdated q n indices (f .factored) (f .held) l)
+
+-- ---- what a test against a kept list asks: the array holds the list, and the variables of it are below the engine's count of originals
+pub record Bounded (s : Listed) : Type 0 where
+  pub fits : s .count ≤ Sizes.originals
+  pub below : Below (length (listOf s)) (listOf s) Sizes.originals
 
 -- ---- what every call keeps: the lists are rising and below o, and the pivots of a factor pass the floor or are NaN
 pub record Fitting (o : ℕ) (s : Listed) : Type 0 where

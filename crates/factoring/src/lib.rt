@@ -56,8 +56,8 @@ fn contains_all(indices: &[usize], s: &[usize]) -> bool
 }
 
 // Whether the block on `indices` contains the last singular one.
-fn contains_singular(failed: bool, singular: Listed, originals: usize, indices: &[usize]) -> bool
-    requires { ⌜ (originals ≤ Sizes.originals) × Rising originals (now indices) × Kept.Fitting originals singular ⌝ }
+fn contains_singular(failed: bool, singular: Listed, indices: &[usize]) -> bool
+    requires { ⌜ Below (length (now indices)) (now indices) Sizes.originals × Kept.Bounded singular ⌝ }
     ensures { λ r. ⌜ r ≡ Kept.containsSingular (now (indices .entry)) failed singular ⌝ }
 {
     if failed {
@@ -167,24 +167,18 @@ impl Factoring {
     }
 
     // The factor of the block computed afresh, unless the block contains the last singular one.
-    fn afresh(
-        self,
-        q: &[f64],
-        n: usize,
-        originals: usize,
-        indices: &[usize],
-        l: &mut [f64],
-        room: &mut [f64],
-    ) -> Self
-        requires { ⌜ Block n originals (now q)
-            × Rising originals (now indices)
-            × Kept.Fitting originals (self .singular)
-            × (originals * originals ≤ length (now l))
-            × (originals * n ≤ length (now room)) ⌝ }
+    fn afresh(self, q: &[f64], n: usize, indices: &[usize], l: &mut [f64], room: &mut [f64]) -> Self
+        requires { ⌜ (n * n ≤ length (now q))
+            × (length (now indices) ≤ Sizes.originals)
+            × Below (length (now indices)) (now indices) Sizes.originals
+            × Below (length (now indices)) (now indices) n
+            × Kept.Bounded (self .singular)
+            × (length (now indices) * length (now indices) ≤ length (now l))
+            × (length (now indices) * n ≤ length (now room)) ⌝ }
         ensures { λ r. ⌜ factor r (now (l .exit)) ≡ Kept.afresh (now (q .entry)) n (now (indices .entry)) self (now (l .entry)) ⌝ }
     {
         let singular = self.singular;
-        if contains_singular(self.failed, singular, originals, indices) {
+        if contains_singular(self.failed, singular, indices) {
             return self.reset();
         }
         if fresh(q, n, indices, l, room) {
@@ -212,6 +206,6 @@ impl Factoring {
         if last_updated(self.factored, held, q, n, originals, indices, l, room) {
             return self.with_factor(indices);
         }
-        self.afresh(q, n, originals, indices, l, room)
+        self.afresh(q, n, indices, l, room)
     }
 }

@@ -1,20 +1,21 @@
 -- qp.rs, the start of a pass of `solve_piecewise_in_units`: the free variables, and the ends and slopes of their segments.
-use Prim.Native.Nat.{ℕ, zero, suc, _+_}
+use Prim.Native.Nat.{ℕ, _<_}
 use mathlib.Core.Path.{_≡_}
 use mathlib.Core.Bool.{Bool, true, false}
-use mathlib.Core.List.{List, [], _∷_, _++_}
+use mathlib.Core.List.{List}
 use lib.ListN.{getD, length}
 use lib.Ieee.{Float}
 use Rattle.folds.specs.Fold.{tab}
 use Rattle.folds.specs.Chosen.{chosen}
-use Rattle.arith.specs.Float.{at}
+use Rattle.sizes.specs.Sizes as Sizes
+use Rattle.vector.specs.Vector.{Below}
 use Rattle.segments.specs.Segments.{segmentsAt, stateAt}
 use Rattle.segments.specs.declared.Segments.{Segments}
 use Rattle.segments.specs.declared.State.{State}
 use Rattle.segments.specs.declared.State.the-variants.{At, Free}
 use Rattle.segments.specs.declared.Spot.{Spot}
-use Rattle.free_list.specs.declared.Entry.{Entry}
-use Rattle.free_list.specs.declared.Entry.the-variants.{Lower, Upper, Slope}
+use Rattle.lent_segments.specs.Lent.{Inside, segmentIn}
+use Rattle.lent_segments.specs.declared.Segment.{Segment}
 
 -- `matches!(state[i], State::Free(_))`
 unfoldable pub isFree : State → Bool
@@ -25,43 +26,29 @@ isFree (Free j) = true
 unfoldable pub freeIndices : (n : ℕ) (state : List Spot) → List ℕ
 freeIndices n state = chosen n (λ i. isFree (stateAt state i))
 
--- the segments that they are in, in the same order: `State::Free(j) => (&segments[i], j)`
-unfoldable pub segmentIn : State → List ℕ
-segmentIn (At p) = []
-segmentIn (Free j) = j ∷ []
+-- each listed variable is one of the engine's, and free in one of its segments
+pub record Listed (indices : List ℕ) (segments : List Segments) (state : List Spot) : Type 0 where
+  pub below : Below (length indices) indices Sizes.variables
+  pub inside : (t : ℕ) → t < length indices → Inside (segmentsAt segments (getD indices t 0)) (stateAt state (getD indices t 0))
 
-unfoldable pub freeSegments : (n : ℕ) (state : List Spot) → List ℕ
-freeSegments zero state = []
-freeSegments (suc n) state = freeSegments n state ++ segmentIn (stateAt state n)
-
--- `|(s, j)| s.points[*j]`, `|(s, j)| s.points[j + 1]`, `|(s, j)| s.slopes[*j]`
-unfoldable pub entryAt : Entry → (s : Segments) (j : ℕ) → Float
-entryAt Lower s j = at (s .points) j
-entryAt Upper s j = at (s .points) (j + 1)
-entryAt Slope s j = at (s .slopes) j
-
--- of a variable, for the segment that it is free in
-abbrev pub EntryOf : Entry → Segments → State → Float → Type 0
-EntryOf which s state r = (j : ℕ) → state ≡ Free j → r ≡ entryAt which s j
-
--- `free.iter().map(..)`, of the first k free variables of n
-unfoldable pub entries : Entry → (k n : ℕ) (segments : List Segments) (state : List Spot) → List Float
-entries which k n segments state =
-    tab k (λ t. entryAt which (segmentsAt segments (getD (freeIndices n state) t 0)) (getD (freeSegments n state) t 0))
+-- `free.iter().map(..)`, of the first k listed
+unfoldable pub entries : (Segment → Float) → (k : ℕ) (indices : List ℕ) (segments : List Segments) (state : List Spot) → List Float
+entries read k indices segments state =
+    tab k (λ t. let i = getD indices t 0 in read (segmentIn (segmentsAt segments i) (stateAt state i)))
 
 -- `free.iter().map(|(s, j)| s.points[*j]).collect()`
-abbrev pub lowerEnds : (k n : ℕ) (segments : List Segments) (state : List Spot) → List Float
-lowerEnds k n segments state = entries Lower k n segments state
+abbrev pub lowerEnds : (k : ℕ) (indices : List ℕ) (segments : List Segments) (state : List Spot) → List Float
+lowerEnds = entries (λ s. s .lower)
 
 -- `free.iter().map(|(s, j)| s.points[j + 1]).collect()`
-abbrev pub upperEnds : (k n : ℕ) (segments : List Segments) (state : List Spot) → List Float
-upperEnds k n segments state = entries Upper k n segments state
+abbrev pub upperEnds : (k : ℕ) (indices : List ℕ) (segments : List Segments) (state : List Spot) → List Float
+upperEnds = entries (λ s. s .upper)
 
 -- `free.iter().map(|(s, j)| s.slopes[*j]).take(solved.len())`
-abbrev pub slopes : (k n : ℕ) (segments : List Segments) (state : List Spot) → List Float
-slopes k n segments state = entries Slope k n segments state
+abbrev pub slopes : (k : ℕ) (indices : List ℕ) (segments : List Segments) (state : List Spot) → List Float
+slopes = entries (λ s. s .slope)
 
 -- the ends of every free variable's segment
 pub record Ends (n : ℕ) (segments : List Segments) (state : List Spot) (lower upper : List Float) : Type 0 where
-  pub lower-is : lower ≡ lowerEnds (length (freeIndices n state)) n segments state
-  pub upper-is : upper ≡ upperEnds (length (freeIndices n state)) n segments state
+  pub lower-is : lower ≡ lowerEnds (length (freeIndices n state)) (freeIndices n state) segments state
+  pub upper-is : upper ≡ upperEnds (length (freeIndices n state)) (freeIndices n state) segments state

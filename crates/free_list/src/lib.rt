@@ -3,13 +3,13 @@ use segments::Segments;
 use segments::Spot;
 use segments::State;
 ghost use mathlib.Core.Path.{_≡_};
-ghost use Prim.Native.Nat.{_≤_, _<_};
+ghost use Prim.Native.Nat.{_≤_};
 ghost use lib.ListN.{length, take};
 ghost use Rattle.folds.specs.Fold.{over};
 ghost use Rattle.folds.specs.Position.{partitionPoint};
 ghost use Rattle.sizes.specs.Sizes as Sizes;
-ghost use Rattle.segments.specs.Segments.{Cut, IsFree, Placed, AllCut, AllPlaced, last as lastOf};
 ghost use Rattle.free_list.specs.FreeList as FreeList;
+ghost use Rattle.free_list.specs.FreeList.{Listed};
 
 // The variables, the leading part of `indices`; the slacks are the rest.
 pub fn split_slacks<'a>(indices: &'a [usize], originals: usize) -> &'a [usize]
@@ -46,60 +46,31 @@ pub fn free_indices(state: [Spot; sizes::VARIABLES], n: usize, indices: &mut [us
     count
 }
 
-// What is read of a segment: an end of it, or the slope on it.
-enum Entry {
-    Lower,
-    Upper,
-    Slope,
-}
-
-fn entry_at(which: Entry, s: Segments, j: usize) -> f64
-    requires { ⌜ Cut s × (j < lastOf s) ⌝ }
-    ensures { λ r. ⌜ r ≡ FreeList.entryAt which s j ⌝ }
-{
-    match which {
-        Entry::Lower => s.point(j),
-        Entry::Upper => s.point(j + 1),
-        Entry::Slope => s.slope(j),
-    }
-}
-
-// Of the segment that a variable is free in.
-fn entry_of(which: Entry, spot: Spot, s: Segments) -> f64
-    requires { ⌜ Cut s × IsFree (spot .state) × Placed s (spot .state) ⌝ }
-    ensures { λ r. ⌜ FreeList.EntryOf which s (spot .state) r ⌝ }
-{
-    let state = spot.state;
-    entry_at(which, s, segments::segment_of(state))
-}
-
-// Each free variable's segment: its ends, and the slope on it.
+// Each listed variable's segment: its ends, and the slope on it.
 pub fn ends_and_slopes(
     segments: [Segments; sizes::VARIABLES],
     state: [Spot; sizes::VARIABLES],
-    n: usize,
     indices: &[usize],
     lower: &mut [f64],
     upper: &mut [f64],
     slope: &mut [f64],
 )
-    requires { ⌜ (n ≤ Sizes.variables)
-        × AllCut n segments
-        × AllPlaced n segments state
-        × (now indices ≡ FreeList.freeIndices n state)
+    requires { ⌜ Listed (now indices) segments state
         × (length (now indices) ≤ length (now lower))
         × (length (now indices) ≤ length (now upper))
         × (length (now indices) ≤ length (now slope)) ⌝ }
-    ensures { λ _. ⌜ (now (lower .exit) ≡ over (FreeList.lowerEnds (length (now (indices .entry))) n segments state) (now (lower .entry)))
-        × (now (upper .exit) ≡ over (FreeList.upperEnds (length (now (indices .entry))) n segments state) (now (upper .entry)))
-        × (now (slope .exit) ≡ over (FreeList.slopes (length (now (indices .entry))) n segments state) (now (slope .entry))) ⌝ }
+    ensures { λ _. ⌜ (now (lower .exit)
+        ≡ over (FreeList.lowerEnds (length (now (indices .entry))) (now (indices .entry)) segments state) (now (lower .entry)))
+        × (now (upper .exit)
+        ≡ over (FreeList.upperEnds (length (now (indices .entry))) (now (indices .entry)) segments state) (now (upper .entry)))
+        × (now (slope .exit)
+        ≡ over (FreeList.slopes (length (now (indices .entry))) (now (indices .entry)) segments state) (now (slope .entry))) ⌝ }
 {
     for t in 0..indices.len() {
         let i = indices[t];
-        let s = lent_segments::segment(segments, i);
-        let spot = state[i];
-        lower[t] = entry_of(Entry::Lower, spot, s);
-        upper[t] = entry_of(Entry::Upper, spot, s);
-        slope[t] = entry_of(Entry::Slope, spot, s);
+        let segment = lent_segments::ends_of(segments, i, state[i]);
+        lower[t] = segment.lower;
+        upper[t] = segment.upper;
+        slope[t] = segment.slope;
     }
 }

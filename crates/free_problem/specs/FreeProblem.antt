@@ -1,10 +1,11 @@
 -- qp.rs, a pass of `solve_piecewise_in_units`: the problem in the free variables. Q is n by n, E is n by m; `solved` are the free variables below
 -- `originals`, `slacks` the free ones from there on.
-use Prim.Native.Nat.{ℕ, _*_}
+use Prim.Native.Nat.{ℕ, _*_, _≤_}
 use mathlib.Core.List.{List}
 use lib.Ieee.{Float}
 use lib.ListN.{length, take}
-use Rattle.vector.specs.Vector.{sub, select}
+use Rattle.sizes.specs.Sizes as Sizes
+use Rattle.vector.specs.Vector.{Below, sub, select}
 use Rattle.matrix.specs.Matrix.{mulVec, trMulVec, selectRows, selectColumns}
 use Rattle.slack_rows.specs.SlackRows.{keptColumns, stepNoise}
 use Rattle.iterate.specs.Problem.{Problem, problem, firstSlackColumn}
@@ -38,14 +39,13 @@ pub record Gathered : Type 0 where
   pub «e_free» : List Float
 
 -- what counts of what the code leaves, with k variables solved and m columns
-unfoldable pub gatheredOf : (k m : ℕ) → Free → (qFree eFree cFree gradientFree residuals : List Float) (kept : List ℕ) (residual : List Float) →
-    Gathered
-gatheredOf k m r qFree eFree cFree gradientFree residuals kept residual = record {
-  c = take k cFree;
-  gradient = take k gradientFree;
-  residuals = take m residuals;
-  kept = take (r .columns) kept;
-  residual = take (r .columns) residual;
+unfoldable pub gatheredOf : (k m : ℕ) → Free → (qFree eFree : List Float) → Gathered
+gatheredOf k m r qFree eFree = record {
+  c = take k (r .c);
+  gradient = take k (r .gradient);
+  residuals = take m (r .residuals);
+  kept = take (r .columns) (r .kept);
+  residual = take (r .columns) (r .residual);
   noise = r .noise;
   «q_free» = take (k * k) qFree;
   «e_free» = take (k * r .columns) eFree;
@@ -68,3 +68,10 @@ gather (problem originals n m q c e b) x solved slacks slope =
       «q_free» = block n n q solved solved;
       «e_free» = block n m e solved columns;
     }
+
+-- what the solve and the step may count on: the columns kept are among the m
+pub record Lists (k m : ℕ) (r : Free) : Type 0 where
+  pub few : k ≤ Sizes.originals
+  pub columns : m ≤ Sizes.columns
+  pub kept-few : r .columns ≤ m
+  pub kept-below : Below (r .columns) (take (r .columns) (r .kept)) m

@@ -6,13 +6,20 @@ ghost use lib.ListN.{length, take};
 ghost use Rattle.sizes.specs.Sizes as Sizes;
 ghost use Rattle.vector.specs.Vector.{Below};
 ghost use Rattle.matrix.specs.Matrix.{selectRows};
-ghost use Rattle.slack_rows.specs.SlackRows.{Rows, Solved, keptColumns};
+ghost use Rattle.slack_rows.specs.SlackRows.{Rows, Solved};
 ghost use Rattle.iterate.specs.Problem.{Shaped, firstSlackColumn, problem};
 ghost use Rattle.free_problem.specs.FreeProblem as Definition;
+use iterate::Counts;
 
-// What the free problem's solve needs to know beside its lists: how many columns are kept, and the noise of its right side.
+// The problem in the free variables, but for its Q and E: the `columns` columns kept, the linear term, the gradient, what each constraint lacks, and,
+// of the kept ones, the right side, with its noise. Of each array the leading part counts.
 pub struct Free {
+    pub kept: [usize; sizes::COLUMNS],
     pub columns: usize,
+    pub c: [f64; sizes::ORIGINALS],
+    pub gradient: [f64; sizes::ORIGINALS],
+    pub residuals: [f64; sizes::COLUMNS],
+    pub residual: [f64; sizes::COLUMNS],
     pub noise: f64,
 }
 
@@ -86,15 +93,13 @@ fn residuals_at(e: &[f64], b: &[f64], n: usize, m: usize, x: &[f64], y: &mut [f6
     vector::sub(b, &ex[..m], m, y);
 }
 
-// The free problem, over the starts of the slices from q_free on; Q's rows stand in room.
+// The free problem, its Q and E over the starts of q_free and e_free; Q's rows stand in room.
 pub fn gather(
     q: &[f64],
     c: &[f64],
     e: &[f64],
     b: &[f64],
-    n: usize,
-    m: usize,
-    originals: usize,
+    counts: Counts,
     x: &[f64],
     solved: &[usize],
     slacks: &[usize],
@@ -102,47 +107,48 @@ pub fn gather(
     room: &mut [f64],
     q_free: &mut [f64],
     e_free: &mut [f64],
-    c_free: &mut [f64],
-    gradient_free: &mut [f64],
-    residuals: &mut [f64],
-    kept: &mut [usize],
-    residual: &mut [f64],
 ) -> Free
-    requires { ⌜ Shaped originals n m (now q) (now c) (now e) (now b)
-        × (n ≤ length (now x))
-        × Solved n m (now e) (now solved)
-        × Rows n m originals (firstSlackColumn originals n m) (now slacks)
-        × (length (now solved) ≤ originals)
+    requires { ⌜ Shaped (counts .originals) (counts .n) (counts .m) (now q) (now c) (now e) (now b)
+        × (counts .n ≤ length (now x))
+        × Solved (counts .n) (counts .m) (now e) (now solved)
+        × Rows (counts .n) (counts .m) (counts .originals) (firstSlackColumn (counts .originals) (counts .n) (counts .m)) (now slacks)
+        × (length (now solved) ≤ counts .originals)
         × (length (now solved) ≤ length (now slope))
-        × (originals * n ≤ length (now room))
-        × (originals * m ≤ length (now room))
-        × (originals * originals ≤ length (now «q_free»))
-        × (originals * m ≤ length (now «e_free»))
-        × (originals ≤ length (now «c_free»))
-        × (originals ≤ length (now «gradient_free»))
-        × (m ≤ length (now residuals))
-        × (m ≤ length (now kept))
-        × (m ≤ length (now residual)) ⌝ }
-    ensures { λ r. ⌜ Definition.gatheredOf (length (now (solved .entry))) m r (now («q_free» .exit)) (now («e_free» .exit)) (now («c_free» .exit))
-        (now («gradient_free» .exit)) (now (residuals .exit)) (now (kept .exit)) (now (residual .exit))
-        ≡ Definition.gather (problem originals n m (now (q .entry)) (now (c .entry)) (now (e .entry)) (now (b .entry)))
+        × (counts .originals * counts .n ≤ length (now room))
+        × (counts .originals * counts .m ≤ length (now room))
+        × (counts .originals * counts .originals ≤ length (now «q_free»))
+        × (counts .originals * counts .m ≤ length (now «e_free»)) ⌝ }
+    ensures { λ r. ⌜ Definition.gatheredOf (length (now (solved .entry))) (counts .m) r (now («q_free» .exit)) (now («e_free» .exit))
+        ≡ Definition.gather (problem (counts .originals) (counts .n) (counts .m) (now (q .entry)) (now (c .entry)) (now (e .entry)) (now (b .entry)))
         (now (x .entry)) (now (solved .entry)) (now (slacks .entry)) (now (slope .entry)) ⌝ }
-    ensures { λ r. ⌜ r .columns ≡ length (keptColumns (now (e .entry)) n m (now (solved .entry)) (now (slacks .entry)) originals
-        (firstSlackColumn originals n m)) ⌝ }
+    ensures { λ r. ⌜ Definition.Lists (length (now (solved .entry))) (counts .m) r ⌝ }
 {
+    let originals = counts.originals;
+    let n = counts.n;
+    let m = counts.m;
     let k = solved.len();
     let first = m - (n - originals);
-    let columns = slack_rows::kept_columns(e, n, m, solved, slacks, originals, first, kept);
+    let rows = k * n;
+    let mut kept = [0; sizes::COLUMNS];
+    let mut c_free = [0.0; sizes::ORIGINALS];
+    let mut gradient_free = [0.0; sizes::ORIGINALS];
+    let mut residuals = [0.0; sizes::COLUMNS];
+    let mut residual = [0.0; sizes::COLUMNS];
+    let columns = slack_rows::kept_columns(e, n, m, solved, slacks, originals, first, &mut kept);
     block(e, n, m, solved, &kept[..columns], room, e_free);
     block(q, n, n, solved, solved, room, q_free);
-    let rows = k * n;
-    linear(c, n, solved, slope, c_free);
-    gradient(&room[..rows], &c_free[..k], k, n, x, gradient_free);
-    residuals_at(e, b, n, m, x, residuals);
-    vector::select(&residuals[..m], m, &kept[..columns], columns, residual);
+    linear(c, n, solved, slope, &mut c_free);
+    gradient(&room[..rows], &c_free[..k], k, n, x, &mut gradient_free);
+    residuals_at(e, b, n, m, x, &mut residuals);
+    vector::select(&residuals[..m], m, &kept[..columns], columns, &mut residual);
     let noise = slack_rows::step_noise(&room[..rows], k, n, x, originals, &c_free[..k]);
     Free {
+        kept: kept,
         columns: columns,
+        c: c_free,
+        gradient: gradient_free,
+        residuals: residuals,
+        residual: residual,
         noise: noise,
     }
 }

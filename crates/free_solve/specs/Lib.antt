@@ -1,3 +1,3 @@
-pub mod Workspace
+pub mod Regular
 pub mod FreeSolve
 pub mod Laws

@@ -1,6 +1,6 @@
 -- qp.rs, what follows the solve of a pass of `solve_piecewise_in_units`: the step to the minimum on the free variables, or, where they have none,
 -- along a direction of zero curvature. The free variables are `solved` and, after them, `slacks`.
-use Prim.Native.Nat.{ℕ, _+_, _-_, _*_, _≤_}
+use Prim.Native.Nat.{ℕ, _+_, _-_, _≤_}
 use mathlib.Core.Path.{_≡_}
 use mathlib.Core.Bool.{Bool}
 use mathlib.Core.List.{List}
@@ -10,18 +10,18 @@ use Rattle.folds.specs.Fold.{all, pick}
 use Rattle.folds.specs.Run.{Pass, done}
 use Rattle.sizes.specs.Sizes as Sizes
 use Rattle.arith.specs.Float.{f0, at}
-use Rattle.vector.specs.Vector.{filled, Below}
+use Rattle.vector.specs.Vector.{filled}
 use Rattle.solution.specs.Solution.{Kkt, optimum, noOptimum, nonFinite, singular}
 use Rattle.segments.specs.declared.Segments.{Segments}
 use Rattle.segments.specs.declared.Spot.{Spot}
 use Rattle.free_list.specs.FreeList.{freeIndices}
 use Rattle.slack_rows.specs.SlackRows.{Rows, Solved, allMultipliers, withSlackSteps}
 use Rattle.ray.specs.Ray.{Descent, descent, noDescent, descentRay}
-use Rattle.iterate.specs.Problem.{Problem, problem, firstSlackColumn}
-use Rattle.iterate.specs.Iterate.{Result, passedOf}
+use Rattle.iterate.specs.Problem.{firstSlackColumn}
+use Rattle.iterate.specs.Iterate.{Result}
 use Rattle.iterate.specs.Iterate as Iterate
 use Rattle.iterate.specs.declared.Iterate.{Iterate}
-use Rattle.iterate.specs.declared.Passed.{Passed}
+use Rattle.free_problem.specs.FreeProblem.{Gathered}
 use Rattle.full_step.specs.FullStep.{toward, along}
 
 -- the free variables, split into those solved for and the slacks, each with its row among E's columns
@@ -34,31 +34,13 @@ pub record Split (originals n m : ℕ) (e : List Float) (state : List Spot) (ind
   pub solved-are : Solved n m e solved
   pub slacks-are : Rows n m originals (firstSlackColumn originals n m) slacks
 
--- what the solve and what follows it ask of the lists, with k variables solved for and m columns
-pub record Lists (k m : ℕ) (kept : List ℕ) (cFree gradient residuals qFree eFree : List Float) : Type 0 where
-  pub few : k ≤ Sizes.originals
-  pub kept-few : length kept ≤ m
-  pub kept-below : Below (length kept) kept m
-  pub c-holds : k ≤ length cFree
-  pub gradient-holds : k ≤ length gradient
-  pub residuals-hold : m ≤ length residuals
-  pub q-holds : k * k ≤ length qFree
-  pub e-holds : k * length kept ≤ length eFree
-
 -- ---- the minimum
 -- `solution.map(|(delta, multipliers)| { ..; (slack_steps(delta, Some(&residuals)), all) })`, and the step to `&x_free + delta`
-unfoldable pub afterMinimum : Problem → (segments : List Segments) (fixed : List Bool) (qAmax linear : Float) (solved slacks kept : List ℕ)
-    (residuals delta multipliers : List Float) → Iterate → Pass Iterate Result
-afterMinimum (problem originals n m q c e b) segments fixed qAmax linear solved slacks kept residuals delta multipliers i =
-    toward (problem originals n m q c e b) segments fixed qAmax linear (length solved)
+unfoldable pub toMinimum : (originals n m : ℕ) (q c e : List Float) (segments : List Segments) (fixed : List Bool) (qAmax linear : Float)
+    (solved slacks kept : List ℕ) (residuals delta multipliers : List Float) → Iterate → Pass Iterate Result
+toMinimum originals n m q c e segments fixed qAmax linear solved slacks kept residuals delta multipliers i =
+    toward originals n m q c e segments fixed qAmax linear (length solved)
     (withSlackSteps e n solved slacks delta residuals originals (firstSlackColumn originals n m)) (allMultipliers m kept multipliers) i
-
--- of what the code leaves, whatever the right side
-abbrev pub AfterMinimum : (originals n m : ℕ) (q c e : List Float) (segments : List Segments) (fixed : List Bool) (qAmax linear : Float)
-    (solved slacks kept : List ℕ) (residuals delta multipliers : List Float) → Iterate → (r : Passed) → Type 0
-AfterMinimum originals n m q c e segments fixed qAmax linear solved slacks kept residuals delta multipliers i r =
-    (b : List Float) →
-    passedOf n m r ≡ afterMinimum (problem originals n m q c e b) segments fixed qAmax linear solved slacks kept residuals delta multipliers i
 
 -- ---- no minimum: `let Some((delta, multipliers)) = solution else { .. }`
 -- `c_free.iter().all(|&v| v == 0.0)`
@@ -73,27 +55,19 @@ onRay originals n m e segments solved slacks i (descent direction) =
 onRay originals n m e segments solved slacks i noDescent = done Iterate.singular
 
 -- `if c_free.iter().all(..) { return Err(CutupError::SingularCovariance); }`
-unfoldable pub descend : (originals n m : ℕ) (e : List Float) (segments : List Segments) (solved slacks : List ℕ)
-    (cFree gradient qFree eFree : List Float) (columns : ℕ) → Iterate → Pass Iterate Result
-descend originals n m e segments solved slacks cFree gradient qFree eFree columns i =
-    pick (allZero (length solved) cFree) (done Iterate.singular)
-    (onRay originals n m e segments solved slacks i (descentRay (length solved) columns qFree gradient eFree))
+unfoldable pub descend : (originals n m : ℕ) (e : List Float) (segments : List Segments) (solved slacks : List ℕ) → Gathered → Iterate →
+    Pass Iterate Result
+descend originals n m e segments solved slacks g i =
+    let k = length solved in
+    pick (allZero k (g .c)) (done Iterate.singular)
+    (onRay originals n m e segments solved slacks i (descentRay k (length (g .kept)) (g .«q_free») (g .gradient) (g .«e_free»)))
 
--- ---- what follows the solve
+-- ---- by what the solve gave
 -- `if let Some((delta, multipliers)) = solution`, else the direction of zero curvature; `?` gives back what is refused
-unfoldable pub onSolution : Problem → (segments : List Segments) (fixed : List Bool) (qAmax linear : Float) (solved slacks kept : List ℕ)
-    (cFree gradient residuals qFree eFree : List Float) → Iterate → Kkt → Pass Iterate Result
-onSolution p segments fixed qAmax linear solved slacks kept cFree gradient residuals qFree eFree i (optimum delta multipliers) =
-    afterMinimum p segments fixed qAmax linear solved slacks kept residuals delta multipliers i
-onSolution (problem originals n m q c e b) segments fixed qAmax linear solved slacks kept cFree gradient residuals qFree eFree i noOptimum =
-    descend originals n m e segments solved slacks cFree gradient qFree eFree (length kept) i
-onSolution p segments fixed qAmax linear solved slacks kept cFree gradient residuals qFree eFree i nonFinite = done Iterate.nonFinite
-onSolution p segments fixed qAmax linear solved slacks kept cFree gradient residuals qFree eFree i singular = done Iterate.singular
-
--- of what the code leaves, whatever the right side
-abbrev pub OnSolution : (originals n m : ℕ) (q c e : List Float) (segments : List Segments) (fixed : List Bool) (qAmax linear : Float)
-    (solved slacks kept : List ℕ) (cFree gradient residuals qFree eFree : List Float) → Iterate → Kkt → (r : Passed) → Type 0
-OnSolution originals n m q c e segments fixed qAmax linear solved slacks kept cFree gradient residuals qFree eFree i s r =
-    (b : List Float) →
-    passedOf n m r
-    ≡ onSolution (problem originals n m q c e b) segments fixed qAmax linear solved slacks kept cFree gradient residuals qFree eFree i s
+unfoldable pub step : (originals n m : ℕ) (q c e : List Float) (segments : List Segments) (fixed : List Bool) (qAmax linear : Float)
+    (solved slacks : List ℕ) → Gathered → Iterate → Kkt → Pass Iterate Result
+step originals n m q c e segments fixed qAmax linear solved slacks g i (optimum delta multipliers) =
+    toMinimum originals n m q c e segments fixed qAmax linear solved slacks (g .kept) (g .residuals) delta multipliers i
+step originals n m q c e segments fixed qAmax linear solved slacks g i noOptimum = descend originals n m e segments solved slacks g i
+step originals n m q c e segments fixed qAmax linear solved slacks g i nonFinite = done Iterate.nonFinite
+step originals n m q c e segments fixed qAmax linear solved slacks g i singular = done Iterate.singular

@@ -1,1 +1,2 @@
 pub mod FreeStep
+pub mod Laws

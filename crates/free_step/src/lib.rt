@@ -2,118 +2,111 @@
 // along a direction of zero curvature. The free variables `indices` are `solved`, those below `originals`, and, after them, `slacks`.
 ghost use mathlib.Core.Path.{_≡_};
 ghost use Prim.Native.Nat.{_≤_, _+_, _-_, _*_};
-ghost use lib.ListN.{length};
-ghost use Rattle.folds.specs.Fold.{over};
+ghost use lib.ListN.{length, take};
 ghost use Rattle.sizes.specs.Sizes as Sizes;
-ghost use Rattle.vector.specs.Vector.{Below};
-ghost use Rattle.noisy_kkt.specs.Room.{Squares, Tall};
-ghost use Rattle.solution.specs.Solution.{answer};
+ghost use Rattle.solution.specs.Solution.{solutionOf};
 ghost use Rattle.segments.specs.Segments.{AllCut};
 ghost use Rattle.free_list.specs.FreeList.{Ends};
 ghost use Rattle.slack_rows.specs.SlackRows.{Rows, Solved, withSlackSteps};
 ghost use Rattle.ray.specs.Ray.{rayOf};
 ghost use Rattle.iterate.specs.Problem.{firstSlackColumn};
 ghost use Rattle.iterate.specs.Iterate.{passedOf, Kept};
+ghost use Rattle.free_problem.specs.FreeProblem.{gatheredOf, Lists};
 ghost use Rattle.advance.specs.Advance.{Shape};
 ghost use Rattle.free_step.specs.FreeStep as FreeStep;
-ghost use Rattle.free_step.specs.FreeStep.{Split, Lists};
+ghost use Rattle.free_step.specs.FreeStep.{Split};
+use free_problem::Free;
+use iterate::Counts;
 use iterate::Ending;
 use iterate::Iterate;
+use iterate::Magnitudes;
 use iterate::Passed;
 use ray::Ray;
 use segments::Segments;
+use solution::Solution;
 use solution::Verdict;
 
 // The step on the variables `solved`, with the slacks' after it.
 fn slack_steps(
     e: &[f64],
-    n: usize,
-    m: usize,
-    originals: usize,
+    counts: Counts,
     solved: &[usize],
     slacks: &[usize],
-    step: &[f64],
-    residuals: &[f64],
-    all: &mut [f64],
-)
-    requires { ⌜ (originals ≤ n)
-        × (n - originals ≤ m)
-        × Solved n m (now e) (now solved)
-        × Rows n m originals (firstSlackColumn originals n m) (now slacks)
-        × (length (now solved) ≤ length (now step))
-        × (m ≤ length (now residuals))
-        × (length (now solved) + length (now slacks) ≤ length (now all)) ⌝ }
-    ensures { λ _. ⌜ now (all .exit)
-        ≡ over (withSlackSteps (now (e .entry)) n (now (solved .entry)) (now (slacks .entry)) (now (step .entry)) (now (residuals .entry))
-        originals (firstSlackColumn originals n m)) (now (all .entry)) ⌝ }
+    step: [f64; sizes::VARIABLES],
+    residuals: [f64; sizes::COLUMNS],
+) -> [f64; sizes::VARIABLES]
+    requires { ⌜ (counts .originals ≤ counts .n)
+        × (counts .n - counts .originals ≤ counts .m)
+        × (counts .m ≤ Sizes.columns)
+        × Solved (counts .n) (counts .m) (now e) (now solved)
+        × Rows (counts .n) (counts .m) (counts .originals) (firstSlackColumn (counts .originals) (counts .n) (counts .m)) (now slacks)
+        × (length (now solved) + length (now slacks) ≤ Sizes.variables) ⌝ }
+    ensures { λ r. ⌜ take (length (now (solved .entry)) + length (now (slacks .entry))) r
+        ≡ withSlackSteps (now (e .entry)) (counts .n) (now (solved .entry)) (now (slacks .entry)) (take (length (now (solved .entry))) step)
+        (take (counts .m) residuals) (counts .originals) (firstSlackColumn (counts .originals) (counts .n) (counts .m)) ⌝ }
 {
+    let originals = counts.originals;
+    let n = counts.n;
+    let m = counts.m;
+    let k = solved.len();
     let first = m - (n - originals);
+    let mut all = [0.0; sizes::VARIABLES];
     slack_rows::with_slack_steps(
         e,
         n,
         m,
         solved,
         slacks,
-        step,
-        residuals,
+        &step[..k],
+        &residuals[..m],
         originals,
         first,
-        all,
+        &mut all,
     );
+    all
 }
 
-// The minimum on the free variables, as the step `delta` from x.
-fn minimum(
+// To the minimum on the free variables, which the solve gave as a step from x.
+fn to_minimum(
+    solution: Solution,
     iterate: Iterate,
     segments: [Segments; sizes::VARIABLES],
     fixed: &[bool],
     q: &[f64],
     c: &[f64],
     e: &[f64],
-    n: usize,
-    m: usize,
-    originals: usize,
-    q_amax: f64,
-    linear: f64,
+    counts: Counts,
+    magnitudes: Magnitudes,
     indices: &[usize],
     solved: &[usize],
     slacks: &[usize],
-    kept: &[usize],
-    residuals: &[f64],
-    delta: &[f64],
-    multipliers: &[f64],
+    free: Free,
     lower: &[f64],
     upper: &[f64],
 ) -> Passed
-    requires { ⌜ Shape originals n m (now q) (now c) (now e)
-        × AllCut n segments
-        × Kept n segments iterate
-        × (n ≤ length (now fixed))
-        × Split originals n m (now e) (iterate .board .state) (now indices) (now solved) (now slacks)
-        × (m ≤ length (now residuals))
-        × (length (now solved) ≤ length (now delta))
-        × (length (now kept) ≤ length (now multipliers))
-        × Below (length (now kept)) (now kept) m
-        × Ends n segments (iterate .board .state) (now lower) (now upper) ⌝ }
-    ensures { λ r. ⌜ FreeStep.AfterMinimum originals n m (now (q .entry)) (now (c .entry)) (now (e .entry)) segments (now (fixed .entry))
-        «q_amax» linear (now (solved .entry)) (now (slacks .entry)) (now (kept .entry)) (now (residuals .entry)) (now (delta .entry))
-        (now (multipliers .entry)) iterate r ⌝ }
-    ensures { λ r. ⌜ Kept n segments (r .iterate) ⌝ }
+    requires { ⌜ Shape (counts .originals) (counts .n) (counts .m) (now q) (now c) (now e)
+        × AllCut (counts .n) segments
+        × Kept (counts .n) segments iterate
+        × (counts .n ≤ length (now fixed))
+        × Split (counts .originals) (counts .n) (counts .m) (now e) (iterate .board .state) (now indices) (now solved) (now slacks)
+        × Lists (length (now solved)) (counts .m) free
+        × Ends (counts .n) segments (iterate .board .state) (now lower) (now upper) ⌝ }
+    ensures { λ r. ⌜ passedOf (counts .n) (counts .m) r
+        ≡ FreeStep.toMinimum (counts .originals) (counts .n) (counts .m) (now (q .entry)) (now (c .entry)) (now (e .entry)) segments
+        (now (fixed .entry)) (magnitudes .q) (magnitudes .linear) (now (solved .entry)) (now (slacks .entry))
+        (take (free .columns) (free .kept)) (take (counts .m) (free .residuals)) (take (length (now (solved .entry))) (solution .x))
+        (take (free .columns) (solution .multipliers)) iterate ⌝ }
+    ensures { λ r. ⌜ Kept (counts .n) segments (r .iterate) ⌝ }
 {
-    let all = slack_rows::all_multipliers(multipliers, kept, m);
-    let mut step = [0.0; sizes::VARIABLES];
-    slack_steps(
-        e,
-        n,
-        m,
-        originals,
-        solved,
-        slacks,
-        delta,
-        residuals,
-        &mut step,
-    );
+    let k = solved.len();
     let count = indices.len();
+    let columns = free.columns;
+    let kept = free.kept;
+    let residuals = free.residuals;
+    let delta = solution.x;
+    let multipliers = solution.multipliers;
+    let all = slack_rows::all_multipliers(&multipliers[..columns], &kept[..columns]);
+    let step = slack_steps(e, counts, solved, slacks, delta, residuals);
     full_step::toward(
         iterate,
         segments,
@@ -121,13 +114,10 @@ fn minimum(
         q,
         c,
         e,
-        n,
-        m,
-        originals,
-        q_amax,
-        linear,
+        counts,
+        magnitudes,
         indices,
-        solved.len(),
+        k,
         &step[..count],
         lower,
         upper,
@@ -152,9 +142,7 @@ fn on_ray(
     iterate: Iterate,
     segments: [Segments; sizes::VARIABLES],
     e: &[f64],
-    n: usize,
-    m: usize,
-    originals: usize,
+    counts: Counts,
     indices: &[usize],
     solved: &[usize],
     slacks: &[usize],
@@ -162,111 +150,74 @@ fn on_ray(
     lower: &[f64],
     upper: &[f64],
 ) -> Passed
-    requires { ⌜ AllCut n segments
-        × Kept n segments iterate
-        × Split originals n m (now e) (iterate .board .state) (now indices) (now solved) (now slacks)
-        × Ends n segments (iterate .board .state) (now lower) (now upper) ⌝ }
-    ensures { λ r. ⌜ passedOf n m r
-        ≡ FreeStep.onRay originals n m (now (e .entry)) segments (now (solved .entry)) (now (slacks .entry)) iterate
+    requires { ⌜ AllCut (counts .n) segments
+        × Kept (counts .n) segments iterate
+        × Split (counts .originals) (counts .n) (counts .m) (now e) (iterate .board .state) (now indices) (now solved) (now slacks)
+        × Ends (counts .n) segments (iterate .board .state) (now lower) (now upper) ⌝ }
+    ensures { λ r. ⌜ passedOf (counts .n) (counts .m) r
+        ≡ FreeStep.onRay (counts .originals) (counts .n) (counts .m) (now (e .entry)) segments (now (solved .entry)) (now (slacks .entry)) iterate
         (rayOf (length (now (solved .entry))) ray) ⌝ }
-    ensures { λ r. ⌜ Kept n segments (r .iterate) ⌝ }
+    ensures { λ r. ⌜ Kept (counts .n) segments (r .iterate) ⌝ }
 {
     if ray.found {
-        let k = solved.len();
+        let n = counts.n;
         let count = indices.len();
         let direction = ray.direction;
         let none = [0.0; sizes::COLUMNS];
-        let mut all = [0.0; sizes::VARIABLES];
-        slack_steps(
-            e,
-            n,
-            m,
-            originals,
-            solved,
-            slacks,
-            &direction[..k],
-            &none[..m],
-            &mut all,
-        );
-        return full_step::along(iterate, segments, n, indices, &all[..count], lower, upper);
+        let step = slack_steps(e, counts, solved, slacks, direction, none);
+        return full_step::along(iterate, segments, n, indices, &step[..count], lower, upper);
     }
     iterate::ended(Ending::SingularCovariance, iterate)
 }
 
-// No minimum on the free variables. Q, E and the gradient are those of the variables `solved`; the slices from ks on are work memory.
+// No minimum on the free variables: along a direction that lowers the objective for ever. Q and E are those of the variables `solved`.
 fn descend(
     iterate: Iterate,
     segments: [Segments; sizes::VARIABLES],
     e: &[f64],
-    n: usize,
-    m: usize,
-    originals: usize,
+    counts: Counts,
     indices: &[usize],
     solved: &[usize],
     slacks: &[usize],
-    c_free: &[f64],
-    gradient: &[f64],
+    free: Free,
     q_free: &[f64],
     e_free: &[f64],
-    columns: usize,
     lower: &[f64],
     upper: &[f64],
-    ks: &mut [f64],
-    es: &mut [f64],
-    left: &mut [f64],
-    coefficients: &mut [f64],
-    range: &mut [f64],
-    qq: &mut [f64],
-    null: &mut [f64],
-    h: &mut [f64],
-    vectors: &mut [f64],
 ) -> Passed
-    requires { ⌜ AllCut n segments
-        × Kept n segments iterate
-        × Split originals n m (now e) (iterate .board .state) (now indices) (now solved) (now slacks)
-        × (length (now solved) ≤ Sizes.originals)
-        × (columns ≤ Sizes.columns)
-        × (length (now solved) ≤ length (now «c_free»))
-        × (length (now solved) ≤ length (now gradient))
+    requires { ⌜ AllCut (counts .n) segments
+        × Kept (counts .n) segments iterate
+        × Split (counts .originals) (counts .n) (counts .m) (now e) (iterate .board .state) (now indices) (now solved) (now slacks)
+        × Lists (length (now solved)) (counts .m) free
         × (length (now solved) * length (now solved) ≤ length (now «q_free»))
-        × (length (now solved) * columns ≤ length (now «e_free»))
-        × (length (now solved) * length (now solved) ≤ length (now ks))
-        × (length (now solved) * columns ≤ length (now es))
-        × Tall (length (now solved)) columns (now left) (now coefficients) (now range)
-        × Squares (length (now solved)) (now qq) (now null) (now h) (now vectors)
-        × Ends n segments (iterate .board .state) (now lower) (now upper) ⌝ }
-    ensures { λ r. ⌜ passedOf n m r
-        ≡ FreeStep.descend originals n m (now (e .entry)) segments (now (solved .entry)) (now (slacks .entry)) (now («c_free» .entry))
-        (now (gradient .entry)) (now («q_free» .entry)) (now («e_free» .entry)) columns iterate ⌝ }
-    ensures { λ r. ⌜ Kept n segments (r .iterate) ⌝ }
+        × (length (now solved) * free .columns ≤ length (now «e_free»))
+        × Ends (counts .n) segments (iterate .board .state) (now lower) (now upper) ⌝ }
+    ensures { λ r. ⌜ passedOf (counts .n) (counts .m) r
+        ≡ FreeStep.descend (counts .originals) (counts .n) (counts .m) (now (e .entry)) segments (now (solved .entry)) (now (slacks .entry))
+        (gatheredOf (length (now (solved .entry))) (counts .m) free (now («q_free» .entry)) (now («e_free» .entry))) iterate ⌝ }
+    ensures { λ r. ⌜ Kept (counts .n) segments (r .iterate) ⌝ }
 {
     let k = solved.len();
-    if all_zero(c_free, k) {
+    let columns = free.columns;
+    let c = free.c;
+    let gradient = free.gradient;
+    let square = k * k;
+    let entries = k * columns;
+    if all_zero(&c[..k], k) {
         return iterate::ended(Ending::SingularCovariance, iterate);
     }
     let ray = ray::descent_ray(
-        q_free,
-        gradient,
-        e_free,
+        &q_free[..square],
+        &gradient[..k],
+        &e_free[..entries],
         k,
         columns,
-        ks,
-        es,
-        left,
-        coefficients,
-        range,
-        qq,
-        null,
-        h,
-        vectors,
     );
     on_ray(
         iterate,
         segments,
         e,
-        n,
-        m,
-        originals,
+        counts,
         indices,
         solved,
         slacks,
@@ -276,82 +227,58 @@ fn descend(
     )
 }
 
-// What follows the solve on the free variables, by its verdict. The slices from ks on are work memory.
-pub fn after_solve(
-    verdict: Verdict,
+// The step that the solve on the free variables gave, by its verdict.
+pub fn step(
+    solution: Solution,
     iterate: Iterate,
     segments: [Segments; sizes::VARIABLES],
     fixed: &[bool],
     q: &[f64],
     c: &[f64],
     e: &[f64],
-    n: usize,
-    m: usize,
-    originals: usize,
-    q_amax: f64,
-    linear: f64,
+    counts: Counts,
+    magnitudes: Magnitudes,
     indices: &[usize],
     solved: &[usize],
     slacks: &[usize],
-    kept: &[usize],
-    c_free: &[f64],
-    gradient: &[f64],
-    residuals: &[f64],
+    free: Free,
     q_free: &[f64],
     e_free: &[f64],
-    delta: &[f64],
-    multipliers: &[f64],
     lower: &[f64],
     upper: &[f64],
-    ks: &mut [f64],
-    es: &mut [f64],
-    left: &mut [f64],
-    coefficients: &mut [f64],
-    range: &mut [f64],
-    qq: &mut [f64],
-    null: &mut [f64],
-    h: &mut [f64],
-    vectors: &mut [f64],
 ) -> Passed
-    requires { ⌜ Shape originals n m (now q) (now c) (now e)
-        × AllCut n segments
-        × Kept n segments iterate
-        × (n ≤ length (now fixed))
-        × Split originals n m (now e) (iterate .board .state) (now indices) (now solved) (now slacks)
-        × Lists (length (now solved)) m (now kept) (now «c_free») (now gradient) (now residuals) (now «q_free») (now «e_free»)
-        × (length (now solved) ≤ length (now delta))
-        × (length (now kept) ≤ length (now multipliers))
-        × (length (now solved) * length (now solved) ≤ length (now ks))
-        × (length (now solved) * length (now kept) ≤ length (now es))
-        × Tall (length (now solved)) (length (now kept)) (now left) (now coefficients) (now range)
-        × Squares (length (now solved)) (now qq) (now null) (now h) (now vectors)
-        × Ends n segments (iterate .board .state) (now lower) (now upper) ⌝ }
-    ensures { λ r. ⌜ FreeStep.OnSolution originals n m (now (q .entry)) (now (c .entry)) (now (e .entry)) segments (now (fixed .entry))
-        «q_amax» linear (now (solved .entry)) (now (slacks .entry)) (now (kept .entry)) (now («c_free» .entry)) (now (gradient .entry))
-        (now (residuals .entry)) (now («q_free» .entry)) (now («e_free» .entry)) iterate
-        (answer verdict (now (delta .entry)) (now (multipliers .entry))) r ⌝ }
-    ensures { λ r. ⌜ Kept n segments (r .iterate) ⌝ }
+    requires { ⌜ Shape (counts .originals) (counts .n) (counts .m) (now q) (now c) (now e)
+        × AllCut (counts .n) segments
+        × Kept (counts .n) segments iterate
+        × (counts .n ≤ length (now fixed))
+        × Split (counts .originals) (counts .n) (counts .m) (now e) (iterate .board .state) (now indices) (now solved) (now slacks)
+        × Lists (length (now solved)) (counts .m) free
+        × (length (now solved) * length (now solved) ≤ length (now «q_free»))
+        × (length (now solved) * free .columns ≤ length (now «e_free»))
+        × Ends (counts .n) segments (iterate .board .state) (now lower) (now upper) ⌝ }
+    ensures { λ r. ⌜ passedOf (counts .n) (counts .m) r
+        ≡ FreeStep.step (counts .originals) (counts .n) (counts .m) (now (q .entry)) (now (c .entry)) (now (e .entry)) segments
+        (now (fixed .entry)) (magnitudes .q) (magnitudes .linear) (now (solved .entry)) (now (slacks .entry))
+        (gatheredOf (length (now (solved .entry))) (counts .m) free (now («q_free» .entry)) (now («e_free» .entry))) iterate
+        (solutionOf (length (now (solved .entry))) (free .columns) solution) ⌝ }
+    ensures { λ r. ⌜ Kept (counts .n) segments (r .iterate) ⌝ }
 {
+    let verdict = solution.verdict;
     match verdict {
-        Verdict::Solved => minimum(
+        Verdict::Solved => to_minimum(
+            solution,
             iterate,
             segments,
             fixed,
             q,
             c,
             e,
-            n,
-            m,
-            originals,
-            q_amax,
-            linear,
+            counts,
+            magnitudes,
             indices,
             solved,
             slacks,
-            kept,
-            residuals,
-            delta,
-            multipliers,
+            free,
             lower,
             upper,
         ),
@@ -359,28 +286,15 @@ pub fn after_solve(
             iterate,
             segments,
             e,
-            n,
-            m,
-            originals,
+            counts,
             indices,
             solved,
             slacks,
-            c_free,
-            gradient,
+            free,
             q_free,
             e_free,
-            kept.len(),
             lower,
             upper,
-            ks,
-            es,
-            left,
-            coefficients,
-            range,
-            qq,
-            null,
-            h,
-            vectors,
         ),
         Verdict::NonFiniteCovariance => iterate::ended(Ending::NonFiniteCovariance, iterate),
         Verdict::SingularCovariance => iterate::ended(Ending::SingularCovariance, iterate),

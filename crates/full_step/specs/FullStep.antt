@@ -1,7 +1,6 @@
 -- qp.rs, the step of a pass of `solve_piecewise_in_units`: toward the minimum on the free variables, or along a direction of zero curvature, until
 -- a variable reaches an end of its segment.
 use Prim.Native.Nat.{ℕ}
-use mathlib.Core.Path.{_≡_}
 use mathlib.Core.Bool.{Bool}
 use mathlib.Core.List.{List}
 use lib.ListN.{length, take}
@@ -13,10 +12,8 @@ use Rattle.free_list.specs.FreeList.{freeIndices, lowerEnds, upperEnds}
 use Rattle.blocking.specs.Blocking.{ratioTest, stepTolerance, blocking}
 use Rattle.blocking.specs.declared.Hit.{Hit}
 use Rattle.blocking.specs.declared.Hit.the-variants.{Found, Nothing}
-use Rattle.iterate.specs.Problem.{Problem, problem}
-use Rattle.iterate.specs.Iterate.{Result, unbounded, passedOf}
+use Rattle.iterate.specs.Iterate.{Result, unbounded}
 use Rattle.iterate.specs.declared.Iterate.{Iterate}
-use Rattle.iterate.specs.declared.Passed.{Passed}
 use Rattle.advance.specs.Advance.{stopped, blocked, settled, release, decided}
 
 -- ---- toward the target
@@ -24,7 +21,7 @@ use Rattle.advance.specs.Advance.{stopped, blocked, settled, release, decided}
 unfoldable pub atBlocking : (originals n m : ℕ) (q c e : List Float) (segments : List Segments) (fixed : List Bool) (qAmax linear : Float)
     (indices : List ℕ) (xFree target lower upper : List Float) (tolerance : Float) (multipliers : List Float) → Iterate → Hit → Pass Iterate Result
 atBlocking originals n m q c e segments fixed qAmax linear indices xFree target lower upper tolerance multipliers i (Found step k side) =
-    blocked i (stopped n segments indices xFree (sub (length indices) target xFree) lower upper step k side (i .released) (i .board))
+    blocked i (stopped segments indices xFree (sub (length indices) target xFree) lower upper step k side (i .released) (i .board))
 atBlocking originals n m q c e segments fixed qAmax linear indices xFree target lower upper tolerance multipliers i Nothing =
     let board = settled indices target lower upper tolerance (i .board) in
     decided n i board multipliers (release originals n m q c e segments fixed qAmax linear multipliers board)
@@ -38,37 +35,31 @@ stepped originals n m q c e segments fixed qAmax linear indices solved xFree tar
     (blocking (length indices) xFree target lower upper tolerance)
 
 -- `let target = &x_free + delta`
-unfoldable pub toward : Problem → (segments : List Segments) (fixed : List Bool) (qAmax linear : Float) (solved : ℕ) (step multipliers : List Float) →
-    Iterate → Pass Iterate Result
-toward (problem originals n m q c e b) segments fixed qAmax linear solved step multipliers i =
+unfoldable pub toward : (originals n m : ℕ) (q c e : List Float) (segments : List Segments) (fixed : List Bool) (qAmax linear : Float) (solved : ℕ)
+    (step multipliers : List Float) → Iterate → Pass Iterate Result
+toward originals n m q c e segments fixed qAmax linear solved step multipliers i =
     let indices = freeIndices n (i .board .state) in
     let k = length indices in
     let xFree = select k (take n (i .board .x)) indices in
-    stepped originals n m q c e segments fixed qAmax linear indices solved xFree (add k xFree step) (lowerEnds k n segments (i .board .state))
-    (upperEnds k n segments (i .board .state)) multipliers i
-
--- of what the code leaves, whatever the right side
-abbrev pub Toward : (originals n m : ℕ) (q c e : List Float) (segments : List Segments) (fixed : List Bool) (qAmax linear : Float) (solved : ℕ)
-    (step multipliers : List Float) → Iterate → (r : Passed) → Type 0
-Toward originals n m q c e segments fixed qAmax linear solved step multipliers i r =
-    (b : List Float) → passedOf n m r ≡ toward (problem originals n m q c e b) segments fixed qAmax linear solved step multipliers i
+    stepped originals n m q c e segments fixed qAmax linear indices solved xFree (add k xFree step) (lowerEnds k indices segments (i .board .state))
+    (upperEnds k indices segments (i .board .state)) multipliers i
 
 -- ---- along a direction
 -- `ratio_test(&x_free, &direction, &lower, &upper).ok_or(CutupError::Unbounded)?`
-unfoldable pub atRatio : (n : ℕ) (segments : List Segments) (indices : List ℕ) (xFree direction lower upper : List Float) → Iterate → Hit →
+unfoldable pub atRatio : (segments : List Segments) (indices : List ℕ) (xFree direction lower upper : List Float) → Iterate → Hit →
     Pass Iterate Result
-atRatio n segments indices xFree direction lower upper i (Found step k side) =
-    blocked i (stopped n segments indices xFree direction lower upper step k side (i .released) (i .board))
-atRatio n segments indices xFree direction lower upper i Nothing = done unbounded
+atRatio segments indices xFree direction lower upper i (Found step k side) =
+    blocked i (stopped segments indices xFree direction lower upper step k side (i .released) (i .board))
+atRatio segments indices xFree direction lower upper i Nothing = done unbounded
 
-unfoldable pub rayStep : (n : ℕ) (segments : List Segments) (indices : List ℕ) (xFree direction lower upper : List Float) → Iterate →
+unfoldable pub rayStep : (segments : List Segments) (indices : List ℕ) (xFree direction lower upper : List Float) → Iterate →
     Pass Iterate Result
-rayStep n segments indices xFree direction lower upper i =
-    atRatio n segments indices xFree direction lower upper i (ratioTest (length indices) xFree direction lower upper)
+rayStep segments indices xFree direction lower upper i =
+    atRatio segments indices xFree direction lower upper i (ratioTest (length indices) xFree direction lower upper)
 
 unfoldable pub along : (n : ℕ) (segments : List Segments) (direction : List Float) → Iterate → Pass Iterate Result
 along n segments direction i =
     let indices = freeIndices n (i .board .state) in
     let k = length indices in
     let xFree = select k (take n (i .board .x)) indices in
-    rayStep n segments indices xFree direction (lowerEnds k n segments (i .board .state)) (upperEnds k n segments (i .board .state)) i
+    rayStep segments indices xFree direction (lowerEnds k indices segments (i .board .state)) (upperEnds k indices segments (i .board .state)) i

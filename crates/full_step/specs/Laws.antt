@@ -21,6 +21,6 @@ module _ (n : ℕ) (state : List Spot) {l : List ℕ} (e : l ≡ freeIndices n s
       record {
         x-holds = x;
         d-holds = d;
-        lower-holds = omega (arith, ap length e, ap length (ends .lower-is) ∙ length-entries _ _ n segments state);
-        upper-holds = omega (arith, ap length e, ap length (ends .upper-is) ∙ length-entries _ _ n segments state);
+        lower-holds = omega (arith, ap length e, ap length (ends .lower-is) ∙ length-entries _ _ segments state _);
+        upper-holds = omega (arith, ap length e, ap length (ends .upper-is) ∙ length-entries _ _ segments state _);
       }

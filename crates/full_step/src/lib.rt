@@ -1,8 +1,10 @@
 // qp.rs, the step of a pass of `solve_piecewise_in_units`: toward the minimum on the free variables, or along a direction of zero curvature, until
 // a variable reaches an end of its segment. `indices` are the free variables.
 use blocking::Hit;
+use iterate::Counts;
 use iterate::Ending;
 use iterate::Iterate;
+use iterate::Magnitudes;
 use iterate::Passed;
 use segments::Segments;
 ghost use mathlib.Core.Path.{_≡_};
@@ -10,10 +12,10 @@ ghost use Prim.Native.Nat.{_≤_};
 ghost use lib.ListN.{length, take};
 ghost use Rattle.sizes.specs.Sizes as Sizes;
 ghost use Rattle.segments.specs.Segments.{AllCut, AllPlaced};
-ghost use Rattle.free_list.specs.FreeList.{Ends, freeIndices};
+ghost use Rattle.free_list.specs.FreeList.{Ends, Listed, freeIndices};
 ghost use Rattle.blocking.specs.Blocking.{Entries};
 ghost use Rattle.iterate.specs.Iterate.{passedOf, Kept};
-ghost use Rattle.advance.specs.Advance.{Shape, Gives};
+ghost use Rattle.advance.specs.Advance.{Shape, Gives, Leaves, Keeps};
 ghost use Rattle.full_step.specs.FullStep as FullStep;
 
 // Toward the target: to where the first free variable passes an end of its segment, or the whole step.
@@ -24,11 +26,8 @@ fn stepped(
     q: &[f64],
     c: &[f64],
     e: &[f64],
-    n: usize,
-    m: usize,
-    originals: usize,
-    q_amax: f64,
-    linear: f64,
+    counts: Counts,
+    magnitudes: Magnitudes,
     indices: &[usize],
     solved: usize,
     x_free: &[f64],
@@ -37,23 +36,24 @@ fn stepped(
     upper: &[f64],
     multipliers: [f64; sizes::COLUMNS],
 ) -> Passed
-    requires { ⌜ Shape originals n m (now q) (now c) (now e)
-        × AllCut n segments
-        × Kept n segments iterate
-        × (n ≤ length (now fixed))
-        × (now indices ≡ freeIndices n (iterate .board .state))
+    requires { ⌜ Shape (counts .originals) (counts .n) (counts .m) (now q) (now c) (now e)
+        × AllCut (counts .n) segments
+        × Kept (counts .n) segments iterate
+        × (counts .n ≤ length (now fixed))
+        × (now indices ≡ freeIndices (counts .n) (iterate .board .state))
         × Entries (length (now indices)) (now «x_free») (now target) (now lower) (now upper)
         × (solved ≤ length (now target)) ⌝ }
-    ensures { λ r. ⌜ passedOf n m r
-        ≡ FullStep.stepped originals n m (now (q .entry)) (now (c .entry)) (now (e .entry)) segments (now (fixed .entry)) «q_amax» linear
-        (now (indices .entry)) solved (now («x_free» .entry)) (now (target .entry)) (now (lower .entry)) (now (upper .entry)) (take m multipliers)
-        iterate ⌝ }
-    ensures { λ r. ⌜ Kept n segments (r .iterate) ⌝ }
+    ensures { λ r. ⌜ passedOf (counts .n) (counts .m) r
+        ≡ FullStep.stepped (counts .originals) (counts .n) (counts .m) (now (q .entry)) (now (c .entry)) (now (e .entry)) segments
+        (now (fixed .entry)) (magnitudes .q) (magnitudes .linear) (now (indices .entry)) solved (now («x_free» .entry)) (now (target .entry))
+        (now (lower .entry)) (now (upper .entry)) (take (counts .m) multipliers) iterate ⌝ }
+    ensures { λ r. ⌜ Kept (counts .n) segments (r .iterate) ⌝ }
 {
+    let n = counts.n;
     let board = iterate.board;
     let x = board.x;
     let count = indices.len();
-    let tolerance = blocking::step_tolerance(target, solved, &x[..n], originals);
+    let tolerance = blocking::step_tolerance(target, solved, &x[..n], counts.originals);
     let hit = blocking::blocking(x_free, target, lower, upper, count, tolerance);
     let Hit::Found(step, k, side) = hit else {
         let next = advance::settled(board, indices, target, lower, upper, tolerance);
@@ -65,11 +65,8 @@ fn stepped(
             q,
             c,
             e,
-            n,
-            m,
-            originals,
-            q_amax,
-            linear,
+            counts,
+            magnitudes,
             multipliers,
         );
     };
@@ -78,7 +75,6 @@ fn stepped(
     advance::blocked(
         iterate,
         segments,
-        n,
         indices,
         x_free,
         &direction[..count],
@@ -94,22 +90,18 @@ fn stepped(
 fn ray_step(
     iterate: Iterate,
     segments: [Segments; sizes::VARIABLES],
-    n: usize,
     indices: &[usize],
     x_free: &[f64],
     direction: &[f64],
     lower: &[f64],
     upper: &[f64],
 ) -> Passed
-    requires { ⌜ (n ≤ Sizes.variables)
-        × AllCut n segments
-        × AllPlaced n segments (iterate .board .state)
-        × (now indices ≡ freeIndices n (iterate .board .state))
+    requires { ⌜ Listed (now indices) segments (iterate .board .state)
         × Entries (length (now indices)) (now «x_free») (now direction) (now lower) (now upper) ⌝ }
-    ensures { λ r. ⌜ Gives n r
-        (FullStep.rayStep n segments (now (indices .entry)) (now («x_free» .entry)) (now (direction .entry)) (now (lower .entry))
+    ensures { λ r. ⌜ Leaves r
+        (FullStep.rayStep segments (now (indices .entry)) (now («x_free» .entry)) (now (direction .entry)) (now (lower .entry))
         (now (upper .entry)) iterate) ⌝ }
-    ensures { λ r. ⌜ Kept n segments (r .iterate) ⌝ }
+    ensures { λ r. ⌜ Keeps (now (indices .entry)) segments iterate r ⌝ }
 {
     let hit = blocking::ratio_test(x_free, direction, lower, upper, indices.len());
     let Hit::Found(step, k, side) = hit else {
@@ -118,7 +110,6 @@ fn ray_step(
     advance::blocked(
         iterate,
         segments,
-        n,
         indices,
         x_free,
         direction,
@@ -138,11 +129,8 @@ pub fn toward(
     q: &[f64],
     c: &[f64],
     e: &[f64],
-    n: usize,
-    m: usize,
-    originals: usize,
-    q_amax: f64,
-    linear: f64,
+    counts: Counts,
+    magnitudes: Magnitudes,
     indices: &[usize],
     solved: usize,
     step: &[f64],
@@ -150,18 +138,20 @@ pub fn toward(
     upper: &[f64],
     multipliers: [f64; sizes::COLUMNS],
 ) -> Passed
-    requires { ⌜ Shape originals n m (now q) (now c) (now e)
-        × AllCut n segments
-        × Kept n segments iterate
-        × (n ≤ length (now fixed))
-        × (now indices ≡ freeIndices n (iterate .board .state))
+    requires { ⌜ Shape (counts .originals) (counts .n) (counts .m) (now q) (now c) (now e)
+        × AllCut (counts .n) segments
+        × Kept (counts .n) segments iterate
+        × (counts .n ≤ length (now fixed))
+        × (now indices ≡ freeIndices (counts .n) (iterate .board .state))
         × (solved ≤ length (now indices))
         × (length (now indices) ≤ length (now step))
-        × Ends n segments (iterate .board .state) (now lower) (now upper) ⌝ }
-    ensures { λ r. ⌜ FullStep.Toward originals n m (now (q .entry)) (now (c .entry)) (now (e .entry)) segments (now (fixed .entry)) «q_amax» linear
-        solved (now (step .entry)) (take m multipliers) iterate r ⌝ }
-    ensures { λ r. ⌜ Kept n segments (r .iterate) ⌝ }
+        × Ends (counts .n) segments (iterate .board .state) (now lower) (now upper) ⌝ }
+    ensures { λ r. ⌜ passedOf (counts .n) (counts .m) r
+        ≡ FullStep.toward (counts .originals) (counts .n) (counts .m) (now (q .entry)) (now (c .entry)) (now (e .entry)) segments
+        (now (fixed .entry)) (magnitudes .q) (magnitudes .linear) solved (now (step .entry)) (take (counts .m) multipliers) iterate ⌝ }
+    ensures { λ r. ⌜ Kept (counts .n) segments (r .iterate) ⌝ }
 {
+    let n = counts.n;
     let board = iterate.board;
     let count = indices.len();
     let x = board.x;
@@ -176,11 +166,8 @@ pub fn toward(
         q,
         c,
         e,
-        n,
-        m,
-        originals,
-        q_amax,
-        linear,
+        counts,
+        magnitudes,
         indices,
         solved,
         &x_free[..count],
@@ -218,7 +205,6 @@ pub fn along(
     ray_step(
         iterate,
         segments,
-        n,
         indices,
         &x_free[..count],
         direction,

@@ -10,32 +10,24 @@ ghost use Rattle.segments.specs.Segments.{AllCut};
 ghost use Rattle.iterate.specs.Problem.{problem, Shaped, Room};
 ghost use Rattle.active.specs.Answer.{answerOf};
 ghost use Rattle.in_units.specs.InUnits as Definition;
-ghost use Rattle.in_units.specs.Room.{few};
 use active::Answer;
 use blocking::Board;
 use blocking::Released;
+use iterate::Counts;
 use iterate::Iterate;
+use iterate::Magnitudes;
 use segments::Segments;
 
-// The originals, and the rows, of a small problem.
-pub const FEW: usize = 8;
-
-// The entries of a matrix of work memory, which has a row for each original and a column for each variable with the slacks (ROWS), for each
-// original (SQUARE) or for each column of E with the slacks (TALL), and of one with a row and a column for each such column (GRAM).
-const FREE_ROWS: usize = sizes::ORIGINALS * sizes::VARIABLES;
-
-const FREE_SQUARE: usize = sizes::ORIGINALS * sizes::ORIGINALS;
-
-const FREE_TALL: usize = sizes::ORIGINALS * sizes::COLUMNS;
+// The entries of a matrix of work memory, which has a row for each original and a column for each variable with the slacks (ROWS), and of one with a
+// row and a column for each column of E with the slacks (GRAM).
+const ROWS: usize = sizes::ORIGINALS * sizes::VARIABLES;
 
 const GRAM: usize = sizes::COLUMNS * sizes::COLUMNS;
 
 // The same of a small problem, of 16 variables and 16 columns.
-const SMALL_FREE: usize = FEW * (FEW + FEW);
+const SMALL_ROWS: usize = sizes::FEW * (sizes::FEW + sizes::FEW);
 
-const SMALL_SQUARE: usize = FEW * FEW;
-
-const SMALL_GRAM: usize = (FEW + FEW) * (FEW + FEW);
+const SMALL_GRAM: usize = (sizes::FEW + sizes::FEW) * (sizes::FEW + sizes::FEW);
 
 fn started(segments: [Segments; sizes::VARIABLES], n: usize, start: &[f64]) -> Iterate
     requires { ⌜ (n ≤ Sizes.variables) × (n ≤ length (now start)) × AllCut n segments ⌝ }
@@ -62,39 +54,30 @@ fn solve_piecewise_in_units(
     c: &[f64],
     e: &[f64],
     b: &[f64],
-    n: usize,
-    m: usize,
-    originals: usize,
+    counts: Counts,
     segments: [Segments; sizes::VARIABLES],
     start: &[f64],
     room: &mut [f64],
     q_free: &mut [f64],
     e_free: &mut [f64],
     gram: &mut [f64],
-    ks: &mut [f64],
-    es: &mut [f64],
-    left: &mut [f64],
-    coefficients: &mut [f64],
-    range: &mut [f64],
-    qq: &mut [f64],
-    null: &mut [f64],
-    h: &mut [f64],
-    vectors: &mut [f64],
     l: &mut [f64],
 ) -> Answer
-    requires { ⌜ Shaped originals n m (now q) (now c) (now e) (now b)
-        × AllCut n segments
-        × (n ≤ length (now start))
-        × Room originals n m (now room) (now «q_free») (now «e_free») (now gram) (now ks) (now es) (now left) (now coefficients) (now range)
-        (now qq) (now null) (now h) (now vectors)
-        × (now l ≡ filled (originals * originals) f0) ⌝ }
-    ensures { λ r. ⌜ answerOf n m r
-        ≡ Definition.solvePiecewiseInUnits (problem originals n m (now (q .entry)) (now (c .entry)) (now (e .entry)) (now (b .entry))) segments
-        (now (start .entry)) ⌝ }
+    requires { ⌜ Shaped (counts .originals) (counts .n) (counts .m) (now q) (now c) (now e) (now b)
+        × AllCut (counts .n) segments
+        × (counts .n ≤ length (now start))
+        × Room (counts .originals) (counts .n) (counts .m) (now room) (now «q_free») (now «e_free») (now gram)
+        × (now l ≡ filled (counts .originals * counts .originals) f0) ⌝ }
+    ensures { λ r. ⌜ answerOf (counts .n) (counts .m) r
+        ≡ Definition.solvePiecewiseInUnits (problem (counts .originals) (counts .n) (counts .m) (now (q .entry)) (now (c .entry)) (now (e .entry)) (now (b .entry)))
+        segments (now (start .entry)) ⌝ }
 {
+    let n = counts.n;
     let fixed = segments::all_fixed(segments, n);
-    let q_amax = vector::amax(q, n * n);
-    let linear = arith::max(vector::amax(c, n), segments::slope_amax(segments, n));
+    let magnitudes = Magnitudes {
+        q: vector::amax(q, n * n),
+        linear: arith::max(vector::amax(c, n), segments::slope_amax(segments, n)),
+    };
     let iterate = started(segments, n, start);
     active::passes(
         iterate,
@@ -104,24 +87,12 @@ fn solve_piecewise_in_units(
         c,
         e,
         b,
-        n,
-        m,
-        originals,
-        q_amax,
-        linear,
+        counts,
+        magnitudes,
         room,
         q_free,
         e_free,
         gram,
-        ks,
-        es,
-        left,
-        coefficients,
-        range,
-        qq,
-        null,
-        h,
-        vectors,
         l,
     )
 }
@@ -142,50 +113,35 @@ fn engine_small(
         × AllCut (n + r) segments
         × (n + r ≤ length (now start))
         × (m ≤ Sizes.equalities)
-        × (r ≤ few)
-        × (n ≤ few) ⌝ }
+        × (r ≤ Sizes.few)
+        × (n ≤ Sizes.few) ⌝ }
     ensures { λ s. ⌜ answerOf (n + r) (m + r) s
         ≡ Definition.solvePiecewiseInUnits (problem n (n + r) (m + r) (now (q .entry)) (now (c .entry)) (now (e .entry)) (now (b .entry))) segments
         (now (start .entry)) ⌝ }
 {
-    let mut room = [0.0; SMALL_FREE];
-    let mut q_free = [0.0; SMALL_SQUARE];
-    let mut e_free = [0.0; SMALL_FREE];
+    let mut room = [0.0; SMALL_ROWS];
+    let mut q_free = [0.0; sizes::SMALL];
+    let mut e_free = [0.0; SMALL_ROWS];
     let mut gram = [0.0; SMALL_GRAM];
-    let mut ks = [0.0; SMALL_SQUARE];
-    let mut es = [0.0; SMALL_FREE];
-    let mut left = [0.0; SMALL_FREE];
-    let mut coefficients = [0.0; SMALL_FREE];
-    let mut range = [0.0; SMALL_FREE];
-    let mut qq = [0.0; SMALL_SQUARE];
-    let mut null = [0.0; SMALL_SQUARE];
-    let mut h = [0.0; SMALL_SQUARE];
-    let mut vectors = [0.0; SMALL_SQUARE];
-    let mut l = [0.0; SMALL_SQUARE];
+    let mut l = [0.0; sizes::SMALL];
     let square = n * n;
+    let counts = Counts {
+        originals: n,
+        n: n + r,
+        m: m + r,
+    };
     solve_piecewise_in_units(
         q,
         c,
         e,
         b,
-        n + r,
-        m + r,
-        n,
+        counts,
         segments,
         start,
         &mut room,
         &mut q_free,
         &mut e_free,
         &mut gram,
-        &mut ks,
-        &mut es,
-        &mut left,
-        &mut coefficients,
-        &mut range,
-        &mut qq,
-        &mut null,
-        &mut h,
-        &mut vectors,
         &mut l[..square],
     )
 }
@@ -210,44 +166,29 @@ fn engine_large(
         ≡ Definition.solvePiecewiseInUnits (problem n (n + r) (m + r) (now (q .entry)) (now (c .entry)) (now (e .entry)) (now (b .entry))) segments
         (now (start .entry)) ⌝ }
 {
-    let mut room = [0.0; FREE_ROWS];
-    let mut q_free = [0.0; FREE_SQUARE];
-    let mut e_free = [0.0; FREE_TALL];
+    let mut room = [0.0; ROWS];
+    let mut q_free = [0.0; sizes::SQUARE];
+    let mut e_free = [0.0; sizes::TALL];
     let mut gram = [0.0; GRAM];
-    let mut ks = [0.0; FREE_SQUARE];
-    let mut es = [0.0; FREE_TALL];
-    let mut left = [0.0; FREE_TALL];
-    let mut coefficients = [0.0; FREE_TALL];
-    let mut range = [0.0; FREE_TALL];
-    let mut qq = [0.0; FREE_SQUARE];
-    let mut null = [0.0; FREE_SQUARE];
-    let mut h = [0.0; FREE_SQUARE];
-    let mut vectors = [0.0; FREE_SQUARE];
-    let mut l = [0.0; FREE_SQUARE];
+    let mut l = [0.0; sizes::SQUARE];
     let square = n * n;
+    let counts = Counts {
+        originals: n,
+        n: n + r,
+        m: m + r,
+    };
     solve_piecewise_in_units(
         q,
         c,
         e,
         b,
-        n + r,
-        m + r,
-        n,
+        counts,
         segments,
         start,
         &mut room,
         &mut q_free,
         &mut e_free,
         &mut gram,
-        &mut ks,
-        &mut es,
-        &mut left,
-        &mut coefficients,
-        &mut range,
-        &mut qq,
-        &mut null,
-        &mut h,
-        &mut vectors,
         &mut l[..square],
     )
 }
@@ -273,8 +214,8 @@ pub fn engine_sized(
         ≡ Definition.solvePiecewiseInUnits (problem n (n + r) (m + r) (now (q .entry)) (now (c .entry)) (now (e .entry)) (now (b .entry))) segments
         (now (start .entry)) ⌝ }
 {
-    if n <= FEW {
-        if r <= FEW {
+    if n <= sizes::FEW {
+        if r <= sizes::FEW {
             return engine_small(q, c, e, b, segments, start, n, m, r);
         }
     }

@@ -25,19 +25,10 @@ pub record Shaped (originals n m : ℕ) (q c e b : List Float) : Type 0 where
 abbrev pub firstSlackColumn : (originals n m : ℕ) → ℕ
 firstSlackColumn originals n m = m - (n - originals)
 
--- work memory of a pass: q_rows (as `room`), q_free, e_free, the Gram matrix, and what the solves ask for
-pub record Room (originals n m : ℕ) (room «q_free» «e_free» gram ks es left coefficients range qq null h vectors : List Float) : Type 0 where
+-- work memory of a pass: rows of Q or of E on the free variables (`room`), q_free, e_free, and the Gram matrix of a factored solve
+pub record Room (originals n m : ℕ) (room qFree eFree gram : List Float) : Type 0 where
   pub rows : originals * n ≤ length room
   pub columns : originals * m ≤ length room
-  pub q-free : originals * originals ≤ length «q_free»
-  pub e-free : originals * m ≤ length «e_free»
+  pub q-free : originals * originals ≤ length qFree
+  pub e-free : originals * m ≤ length eFree
   pub gram-room : m * m ≤ length gram
-  pub ks-room : originals * originals ≤ length ks
-  pub es-room : originals * m ≤ length es
-  pub left-room : originals * m ≤ length left
-  pub coefficients-room : originals * m ≤ length coefficients
-  pub range-room : originals * m ≤ length range
-  pub qq-room : originals * originals ≤ length qq
-  pub null-room : originals * originals ≤ length null
-  pub h-room : originals * originals ≤ length h
-  pub vectors-room : originals * originals ≤ length vectors

@@ -6,6 +6,19 @@ ghost use Rattle.arith.specs.Float.{f0};
 use blocking::Board;
 use blocking::Released;
 
+// The variables, of which those from `originals` on are slacks, and the columns of E.
+pub struct Counts {
+    pub originals: usize,
+    pub n: usize,
+    pub m: usize,
+}
+
+// The largest absolute values: of Q, and of c and the slopes.
+pub struct Magnitudes {
+    pub q: f64,
+    pub linear: f64,
+}
+
 // The point with its active set, the variable that the pass before released, and where every variable was last freed at once.
 pub struct Iterate {
     pub board: Board,

@@ -5,20 +5,12 @@ ghost use lib.ListN.{length, take};
 ghost use Rattle.sizes.specs.Sizes as Sizes;
 ghost use Rattle.scaled.specs.System.{Sized, system};
 ghost use Rattle.solution.specs.Solution.{answer, solutionOf};
-ghost use Rattle.noisy_kkt.specs.Room.{Squares, Tall};
 ghost use Rattle.kkt.specs.Kkt.{engine, Answered, Written};
 ghost use Rattle.kkt.specs.Kkt as Definition;
 use solution::Solution;
 use solution::Verdict;
 
-// The entries of a matrix of work memory: n by n and n by m, and either where n is at most 8.
-const SQUARE: usize = sizes::ORIGINALS * sizes::ORIGINALS;
-
-const TALL: usize = sizes::ORIGINALS * sizes::EQUALITIES;
-
-const SMALL: usize = 8 * sizes::EQUALITIES;
-
-// The solve in `Units`, and back. The slices from uk on are work memory.
+// The solve in `Units`, and back; uk and ue are work memory.
 fn solve_in(
     k: &[f64],
     c: &[f64],
@@ -28,23 +20,8 @@ fn solve_in(
     m: usize,
     uk: &mut [f64],
     ue: &mut [f64],
-    ks: &mut [f64],
-    es: &mut [f64],
-    left: &mut [f64],
-    coefficients: &mut [f64],
-    range: &mut [f64],
-    q: &mut [f64],
-    null: &mut [f64],
-    h: &mut [f64],
-    vectors: &mut [f64],
 ) -> Solution
-    requires { ⌜ Sized n m (now k) (now c) (now e) (now b)
-        × (n * n ≤ length (now uk))
-        × (n * m ≤ length (now ue))
-        × (n * n ≤ length (now ks))
-        × (n * m ≤ length (now es))
-        × Tall n m (now left) (now coefficients) (now range)
-        × Squares n (now q) (now null) (now h) (now vectors) ⌝ }
+    requires { ⌜ Sized n m (now k) (now c) (now e) (now b) × (n * n ≤ length (now uk)) × (n * m ≤ length (now ue)) ⌝ }
     ensures { λ r. ⌜ solutionOf n m r
         ≡ Definition.solveUnits (system n m (now (k .entry)) (now (c .entry)) (now (e .entry)) (now (b .entry))) ⌝ }
 {
@@ -64,15 +41,6 @@ fn solve_in(
         n,
         m,
         0.0,
-        ks,
-        es,
-        left,
-        coefficients,
-        range,
-        q,
-        null,
-        h,
-        vectors,
     );
     let verdict = s.verdict;
     let u = s.x;
@@ -90,79 +58,24 @@ fn solve_in(
     )
 }
 
-// A small system in little memory: what a call clears would otherwise cost more than the solve.
 fn solve_small(k: &[f64], c: &[f64], e: &[f64], b: &[f64], n: usize, m: usize) -> Solution
-    requires { ⌜ Sized n m (now k) (now c) (now e) (now b) × (n ≤ 8) × (m ≤ Sizes.equalities) ⌝ }
+    requires { ⌜ Sized n m (now k) (now c) (now e) (now b) × (n ≤ Sizes.few) × (m ≤ Sizes.equalities) ⌝ }
     ensures { λ r. ⌜ solutionOf n m r
         ≡ Definition.solveUnits (system n m (now (k .entry)) (now (c .entry)) (now (e .entry)) (now (b .entry))) ⌝ }
 {
-    let mut uk = [0.0; SMALL];
-    let mut ue = [0.0; SMALL];
-    let mut ks = [0.0; SMALL];
-    let mut es = [0.0; SMALL];
-    let mut left = [0.0; SMALL];
-    let mut coefficients = [0.0; SMALL];
-    let mut range = [0.0; SMALL];
-    let mut q = [0.0; SMALL];
-    let mut null = [0.0; SMALL];
-    let mut h = [0.0; SMALL];
-    let mut vectors = [0.0; SMALL];
-    solve_in(
-        k,
-        c,
-        e,
-        b,
-        n,
-        m,
-        &mut uk,
-        &mut ue,
-        &mut ks,
-        &mut es,
-        &mut left,
-        &mut coefficients,
-        &mut range,
-        &mut q,
-        &mut null,
-        &mut h,
-        &mut vectors,
-    )
+    let mut uk = [0.0; sizes::SMALL];
+    let mut ue = [0.0; sizes::SMALL];
+    solve_in(k, c, e, b, n, m, &mut uk, &mut ue)
 }
 
 fn solve_large(k: &[f64], c: &[f64], e: &[f64], b: &[f64], n: usize, m: usize) -> Solution
-    requires { ⌜ Sized n m (now k) (now c) (now e) (now b) × (m ≤ Sizes.equalities) ⌝ }
+    requires { ⌜ Sized n m (now k) (now c) (now e) (now b) ⌝ }
     ensures { λ r. ⌜ solutionOf n m r
         ≡ Definition.solveUnits (system n m (now (k .entry)) (now (c .entry)) (now (e .entry)) (now (b .entry))) ⌝ }
 {
-    let mut uk = [0.0; SQUARE];
-    let mut ue = [0.0; TALL];
-    let mut ks = [0.0; SQUARE];
-    let mut es = [0.0; TALL];
-    let mut left = [0.0; TALL];
-    let mut coefficients = [0.0; TALL];
-    let mut range = [0.0; TALL];
-    let mut q = [0.0; SQUARE];
-    let mut null = [0.0; SQUARE];
-    let mut h = [0.0; SQUARE];
-    let mut vectors = [0.0; SQUARE];
-    solve_in(
-        k,
-        c,
-        e,
-        b,
-        n,
-        m,
-        &mut uk,
-        &mut ue,
-        &mut ks,
-        &mut es,
-        &mut left,
-        &mut coefficients,
-        &mut range,
-        &mut q,
-        &mut null,
-        &mut h,
-        &mut vectors,
-    )
+    let mut uk = [0.0; sizes::SQUARE];
+    let mut ue = [0.0; sizes::TALL];
+    solve_in(k, c, e, b, n, m, &mut uk, &mut ue)
 }
 
 // The solve in work memory of its size.
@@ -171,7 +84,7 @@ fn solve_shaped(k: &[f64], c: &[f64], e: &[f64], b: &[f64], n: usize, m: usize) 
     ensures { λ r. ⌜ solutionOf n m r
         ≡ Definition.solveUnits (system n m (now (k .entry)) (now (c .entry)) (now (e .entry)) (now (b .entry))) ⌝ }
 {
-    if n <= 8 {
+    if n <= sizes::FEW {
         return solve_small(k, c, e, b, n, m);
     }
     solve_large(k, c, e, b, n, m)

@@ -18,18 +18,21 @@ use Rattle.factor.specs.Laws.{rising-chosen}
 use Rattle.factoring.specs.declared.Factoring.{Factoring}
 use Rattle.segments.specs.declared.Segments.{Segments}
 use Rattle.segments.specs.declared.Spot.{Spot}
-use Rattle.free_list.specs.FreeList.{freeIndices}
+use Rattle.free_list.specs.FreeList.{freeIndices, slopes}
 use Rattle.free_list.specs.Laws.{free-chosen, free-originals}
 use Rattle.slack_rows.specs.Laws as SlackRows
 use Rattle.iterate.specs.Problem.{problem, firstSlackColumn}
 use Rattle.iterate.specs.Iterate.{Result}
 use Rattle.iterate.specs.declared.Iterate.{Iterate}
 use Rattle.advance.specs.Advance.{withoutFree}
-use Rattle.free_step.specs.FreeStep.{Split}
-use Rattle.free_pass.specs.FreePass.{State, state, beside}
-use Rattle.free_pass.specs.Laws.{within}
-use Rattle.gathering.specs.Gathering.{withFree}
-use Rattle.pass.specs.Pass.{pass}
+use Rattle.solution.specs.Solution as Solution
+use Rattle.free_problem.specs.FreeProblem.{Gathered, gather}
+use Rattle.free_solve.specs.declared.Solved.{Solved}
+use Rattle.free_solve.specs.FreeSolve.{solutionOf, solveFree}
+use Rattle.free_solve.specs.Laws.{left-answer, left-factoring, left-factor}
+use Rattle.free_step.specs.FreeStep.{Split, step}
+use Rattle.pass.specs.State.{State, state, beside}
+use Rattle.pass.specs.Pass.{solveAndStep, freePass, pass}
 
 -- ---- the split
 lead-length : {solved : List ℕ} (originals : ℕ) (indices : List ℕ) → solved ≡ take (partitionPoint originals indices) indices →
@@ -42,7 +45,7 @@ lead-few originals indices lead = rw (lead-length originals indices lead) (split
 
 -- `&indices[k..]`, as the borrow checker tells it
 pub rest-is : (k : ℕ) (indices : List ℕ) → take (length indices - k) (drop k indices) ≡ drop k indices
-rest-is k indices = take-all (length indices - k) (drop k indices) (within (length-drop k indices) (le-refl _))
+rest-is k indices = take-all (length indices - k) (drop k indices) (rw (length-drop k indices) (le-refl _))
 
 module _ {indices solved : List ℕ} (originals n : ℕ) (state : List Spot) (within : originals ≤ n) (free : indices ≡ freeIndices n state)
     (lead : solved ≡ take (partitionPoint originals indices) indices) where
@@ -72,16 +75,32 @@ module _ {indices solved : List ℕ} (originals n : ℕ) (state : List Spot) (wi
         }
 
 -- ---- what the calls give
-module _ (originals n m : ℕ) (q c e b : List Float) (segments : List Segments) (fixed : List Bool) (qAmax linear : Float)
+module _ (originals n m : ℕ) (q c e : List Float) (segments : List Segments) (fixed : List Bool) (qAmax linear : Float)
     (solved slacks : List ℕ) (i : Iterate) (f : Factoring) (l : List Float) where
-  module _ {indices : List ℕ} (free : indices ≡ freeIndices n (i .board .state)) (lead : solved ≡ take (partitionPoint originals indices) indices) where
-    pub pass-without : {x : Pass Iterate Result} → length solved ≡ 0 → x ≡ withoutFree originals n m segments fixed i →
-        beside f l x ≡ pass (problem originals n m q c e b) segments fixed qAmax linear (state i f l)
-    unfolding pass pick
-    pass-without t h = rw (h, ← free, ← lead-length originals indices lead, t)
+  pub step-from : {x : Pass Iterate Result} (k columns : ℕ) (g : Gathered) (r : Solved) (l′ : List Float) →
+      solutionOf k columns r l′ ≡ solveFree q n solved g f l →
+      x ≡ step originals n m q c e segments fixed qAmax linear solved slacks g i (Solution.solutionOf k columns (r .solution)) →
+      beside (r .factoring) l′ x ≡ solveAndStep originals n m q c e segments fixed qAmax linear solved slacks g i f l
+  unfolding solveAndStep
+  step-from k columns g r l′ s h = rw (h, left-answer _ _ r l′ _ s, left-factoring _ _ r l′ _ s, left-factor _ _ r l′ _ s)
 
-    pub pass-with : {x : Pass State Result} → (length solved ≡ 0 → ⊥) → slacks ≡ drop (length solved) indices →
-        x ≡ withFree (problem originals n m q c e b) segments fixed qAmax linear solved slacks i f l →
-        x ≡ pass (problem originals n m q c e b) segments fixed qAmax linear (state i f l)
-    unfolding pass pick
-    pass-with t s h = h ∙ rw (← free, ← lead, ← lead-length originals indices lead, ne-eqb _ _ t, s)
+  module _ (b : List Float) where
+    pub free-from : {x : Pass State Result} {g : Gathered} {slope : List Float} →
+        g ≡ gather (problem originals n m q c e b) (take n (i .board .x)) solved slacks slope →
+        slope ≡ slopes (length solved) (freeIndices n (i .board .state)) segments (i .board .state) →
+        x ≡ solveAndStep originals n m q c e segments fixed qAmax linear solved slacks g i f l →
+        x ≡ freePass (problem originals n m q c e b) segments fixed qAmax linear solved slacks i f l
+    unfolding freePass
+    free-from g s h = h ∙ rw (g, s)
+
+    module _ {indices : List ℕ} (free : indices ≡ freeIndices n (i .board .state)) (lead : solved ≡ take (partitionPoint originals indices) indices) where
+      pub pass-without : {x : Pass Iterate Result} → length solved ≡ 0 → x ≡ withoutFree originals n m segments fixed i →
+          beside f l x ≡ pass (problem originals n m q c e b) segments fixed qAmax linear (state i f l)
+      unfolding pass pick
+      pass-without t h = rw (h, ← free, ← lead-length originals indices lead, t)
+
+      pub pass-with : {x : Pass State Result} → (length solved ≡ 0 → ⊥) → slacks ≡ drop (length solved) indices →
+          x ≡ freePass (problem originals n m q c e b) segments fixed qAmax linear solved slacks i f l →
+          x ≡ pass (problem originals n m q c e b) segments fixed qAmax linear (state i f l)
+      unfolding pass pick
+      pass-with t s h = h ∙ rw (← free, ← lead, ← lead-length originals indices lead, ne-eqb _ _ t, s)

@@ -1,2 +1,3 @@
+pub mod State
 pub mod Pass
 pub mod Laws

@@ -1,22 +1,118 @@
-// qp.rs, a pass of `solve_piecewise_in_units`. Q is n by n, E is n by m; the variables from `originals` on are slacks, each with one of the last
-// columns of E. `indices` are the free variables. The slices from room on are work memory, but l, which holds the kept factor.
+// qp.rs, a pass of `solve_piecewise_in_units`: it lists the free variables, gathers the problem in them, solves that and steps. Q is n by n, E is n by
+// m; the variables from `originals` on are slacks, each with one of the last columns of E. `indices` are the free variables, `solved` those of them
+// below `originals`, `slacks` the others. The slices from room on are work memory, but l, which holds the kept factor.
 ghost use mathlib.Core.Path.{_≡_};
 ghost use Prim.Native.Nat.{_≤_, _*_};
 ghost use lib.ListN.{length};
+ghost use Rattle.sizes.specs.Sizes as Sizes;
+ghost use Rattle.factor.specs.Factor.{Rising};
 ghost use Rattle.factoring.specs.Kept.{Good};
 ghost use Rattle.segments.specs.Segments.{AllCut};
-ghost use Rattle.free_list.specs.FreeList.{freeIndices};
+ghost use Rattle.free_list.specs.FreeList.{Ends, freeIndices};
 ghost use Rattle.iterate.specs.Problem.{problem, Shaped, Room};
 ghost use Rattle.iterate.specs.Iterate.{Kept};
-ghost use Rattle.free_pass.specs.FreePass.{madeOf, state};
+ghost use Rattle.free_problem.specs.FreeProblem.{gatheredOf, Lists};
+ghost use Rattle.advance.specs.Advance.{Shape};
+ghost use Rattle.free_step.specs.FreeStep.{Split};
+ghost use Rattle.pass.specs.State.{madeOf, state};
 ghost use Rattle.pass.specs.Pass as Definition;
 use factoring::Factoring;
-use free_pass::Made;
+use free_problem::Free;
+use iterate::Counts;
 use iterate::Iterate;
+use iterate::Magnitudes;
+use iterate::Passed;
 use segments::Segments;
 
-// A pass, given the free variables.
-fn with_indices(
+// A pass, and what it leaves of the kept factor, beside the factor itself.
+pub struct Made {
+    pub passed: Passed,
+    pub factoring: Factoring,
+}
+
+// The problem in the free variables is solved, and the step made.
+fn solve_and_step(
+    iterate: Iterate,
+    factoring: Factoring,
+    segments: [Segments; sizes::VARIABLES],
+    fixed: &[bool],
+    q: &[f64],
+    c: &[f64],
+    e: &[f64],
+    counts: Counts,
+    magnitudes: Magnitudes,
+    indices: &[usize],
+    solved: &[usize],
+    slacks: &[usize],
+    free: Free,
+    q_free: &[f64],
+    e_free: &[f64],
+    lower: &[f64],
+    upper: &[f64],
+    room: &mut [f64],
+    gram: &mut [f64],
+    l: &mut [f64],
+) -> Made
+    requires { ⌜ Shape (counts .originals) (counts .n) (counts .m) (now q) (now c) (now e)
+        × (counts .originals ≤ Sizes.originals)
+        × AllCut (counts .n) segments
+        × Kept (counts .n) segments iterate
+        × (counts .n ≤ length (now fixed))
+        × Split (counts .originals) (counts .n) (counts .m) (now e) (iterate .board .state) (now indices) (now solved) (now slacks)
+        × Lists (length (now solved)) (counts .m) free
+        × Ends (counts .n) segments (iterate .board .state) (now lower) (now upper)
+        × Rising (counts .originals) (now solved)
+        × Room (counts .originals) (counts .n) (counts .m) (now room) (now «q_free») (now «e_free») (now gram)
+        × Good (counts .originals) factoring (now l)
+        × (counts .originals * counts .originals ≤ length (now l)) ⌝ }
+    ensures { λ r. ⌜ madeOf (counts .n) (counts .m) r (now (l .exit))
+        ≡ Definition.solveAndStep (counts .originals) (counts .n) (counts .m) (now (q .entry)) (now (c .entry)) (now (e .entry)) segments
+        (now (fixed .entry)) (magnitudes .q) (magnitudes .linear) (now (solved .entry)) (now (slacks .entry))
+        (gatheredOf (length (now (solved .entry))) (counts .m) free (now («q_free» .entry)) (now («e_free» .entry))) iterate factoring
+        (now (l .entry)) ⌝ }
+    ensures { λ r. ⌜ Kept (counts .n) segments (r .passed .iterate) × Good (counts .originals) (r .factoring) (now (l .exit)) ⌝ }
+{
+    let s = free_solve::solve_free(
+        factoring,
+        q,
+        counts,
+        solved,
+        free,
+        q_free,
+        e_free,
+        room,
+        gram,
+        l,
+    );
+    let solution = s.solution;
+    let left = s.factoring;
+    let passed = free_step::step(
+        solution,
+        iterate,
+        segments,
+        fixed,
+        q,
+        c,
+        e,
+        counts,
+        magnitudes,
+        indices,
+        solved,
+        slacks,
+        free,
+        q_free,
+        e_free,
+        lower,
+        upper,
+    );
+    Made {
+        passed: passed,
+        factoring: left,
+    }
+}
+
+// With free originals: the problem in the free variables is gathered, solved, and the step made.
+fn free_pass(
     iterate: Iterate,
     factoring: Factoring,
     segments: [Segments; sizes::VARIABLES],
@@ -25,41 +121,113 @@ fn with_indices(
     c: &[f64],
     e: &[f64],
     b: &[f64],
-    n: usize,
-    m: usize,
-    originals: usize,
-    q_amax: f64,
-    linear: f64,
+    counts: Counts,
+    magnitudes: Magnitudes,
+    indices: &[usize],
+    solved: &[usize],
+    slacks: &[usize],
+    room: &mut [f64],
+    q_free: &mut [f64],
+    e_free: &mut [f64],
+    gram: &mut [f64],
+    l: &mut [f64],
+) -> Made
+    requires { ⌜ Shaped (counts .originals) (counts .n) (counts .m) (now q) (now c) (now e) (now b)
+        × AllCut (counts .n) segments
+        × Kept (counts .n) segments iterate
+        × (counts .n ≤ length (now fixed))
+        × Split (counts .originals) (counts .n) (counts .m) (now e) (iterate .board .state) (now indices) (now solved) (now slacks)
+        × Rising (counts .originals) (now solved)
+        × Room (counts .originals) (counts .n) (counts .m) (now room) (now «q_free») (now «e_free») (now gram)
+        × Good (counts .originals) factoring (now l)
+        × (counts .originals * counts .originals ≤ length (now l)) ⌝ }
+    ensures { λ r. ⌜ madeOf (counts .n) (counts .m) r (now (l .exit))
+        ≡ Definition.freePass (problem (counts .originals) (counts .n) (counts .m) (now (q .entry)) (now (c .entry)) (now (e .entry)) (now (b .entry))) segments
+        (now (fixed .entry)) (magnitudes .q) (magnitudes .linear) (now (solved .entry)) (now (slacks .entry)) iterate factoring (now (l .entry)) ⌝ }
+    ensures { λ r. ⌜ Kept (counts .n) segments (r .passed .iterate) × Good (counts .originals) (r .factoring) (now (l .exit)) ⌝ }
+{
+    let n = counts.n;
+    let k = solved.len();
+    let count = indices.len();
+    let board = iterate.board;
+    let x = board.x;
+    let state = board.state;
+    let mut lower = [0.0; sizes::VARIABLES];
+    let mut upper = [0.0; sizes::VARIABLES];
+    let mut slope = [0.0; sizes::VARIABLES];
+    free_list::ends_and_slopes(segments, state, indices, &mut lower, &mut upper, &mut slope);
+    let free = free_problem::gather(
+        q,
+        c,
+        e,
+        b,
+        counts,
+        &x[..n],
+        solved,
+        slacks,
+        &slope[..k],
+        room,
+        q_free,
+        e_free,
+    );
+    solve_and_step(
+        iterate,
+        factoring,
+        segments,
+        fixed,
+        q,
+        c,
+        e,
+        counts,
+        magnitudes,
+        indices,
+        solved,
+        slacks,
+        free,
+        &q_free[..],
+        &e_free[..],
+        &lower[..count],
+        &upper[..count],
+        room,
+        gram,
+        l,
+    )
+}
+
+// With the free variables split: with no free original every variable is freed.
+fn pass_over(
+    iterate: Iterate,
+    factoring: Factoring,
+    segments: [Segments; sizes::VARIABLES],
+    fixed: &[bool],
+    q: &[f64],
+    c: &[f64],
+    e: &[f64],
+    b: &[f64],
+    counts: Counts,
+    magnitudes: Magnitudes,
     indices: &[usize],
     room: &mut [f64],
     q_free: &mut [f64],
     e_free: &mut [f64],
     gram: &mut [f64],
-    ks: &mut [f64],
-    es: &mut [f64],
-    left: &mut [f64],
-    coefficients: &mut [f64],
-    range: &mut [f64],
-    qq: &mut [f64],
-    null: &mut [f64],
-    h: &mut [f64],
-    vectors: &mut [f64],
     l: &mut [f64],
 ) -> Made
-    requires { ⌜ Shaped originals n m (now q) (now c) (now e) (now b)
-        × AllCut n segments
-        × Kept n segments iterate
-        × (length (now fixed) ≡ n)
-        × (now indices ≡ freeIndices n (iterate .board .state))
-        × Room originals n m (now room) (now «q_free») (now «e_free») (now gram) (now ks) (now es) (now left) (now coefficients) (now range)
-        (now qq) (now null) (now h) (now vectors)
-        × Good originals factoring (now l)
-        × (originals * originals ≤ length (now l)) ⌝ }
-    ensures { λ r. ⌜ madeOf n m r (now (l .exit))
-        ≡ Definition.pass (problem originals n m (now (q .entry)) (now (c .entry)) (now (e .entry)) (now (b .entry))) segments
-        (now (fixed .entry)) «q_amax» linear (state iterate factoring (now (l .entry))) ⌝ }
-    ensures { λ r. ⌜ Kept n segments (r .passed .iterate) × Good originals (r .factoring) (now (l .exit)) ⌝ }
+    requires { ⌜ Shaped (counts .originals) (counts .n) (counts .m) (now q) (now c) (now e) (now b)
+        × AllCut (counts .n) segments
+        × Kept (counts .n) segments iterate
+        × (length (now fixed) ≡ counts .n)
+        × (now indices ≡ freeIndices (counts .n) (iterate .board .state))
+        × Room (counts .originals) (counts .n) (counts .m) (now room) (now «q_free») (now «e_free») (now gram)
+        × Good (counts .originals) factoring (now l)
+        × (counts .originals * counts .originals ≤ length (now l)) ⌝ }
+    ensures { λ r. ⌜ madeOf (counts .n) (counts .m) r (now (l .exit))
+        ≡ Definition.pass (problem (counts .originals) (counts .n) (counts .m) (now (q .entry)) (now (c .entry)) (now (e .entry)) (now (b .entry))) segments
+        (now (fixed .entry)) (magnitudes .q) (magnitudes .linear) (state iterate factoring (now (l .entry))) ⌝ }
+    ensures { λ r. ⌜ Kept (counts .n) segments (r .passed .iterate) × Good (counts .originals) (r .factoring) (now (l .exit)) ⌝ }
 {
+    let n = counts.n;
+    let originals = counts.originals;
     let solved = free_list::split_slacks(indices, originals);
     let k = solved.len();
     if k == 0 {
@@ -69,7 +237,7 @@ fn with_indices(
             factoring: factoring,
         };
     }
-    gathering::with_free(
+    free_pass(
         iterate,
         factoring,
         segments,
@@ -78,11 +246,8 @@ fn with_indices(
         c,
         e,
         b,
-        n,
-        m,
-        originals,
-        q_amax,
-        linear,
+        counts,
+        magnitudes,
         indices,
         solved,
         &indices[k..],
@@ -90,15 +255,6 @@ fn with_indices(
         q_free,
         e_free,
         gram,
-        ks,
-        es,
-        left,
-        coefficients,
-        range,
-        qq,
-        null,
-        h,
-        vectors,
         l,
     )
 }
@@ -112,44 +268,31 @@ pub fn pass(
     c: &[f64],
     e: &[f64],
     b: &[f64],
-    n: usize,
-    m: usize,
-    originals: usize,
-    q_amax: f64,
-    linear: f64,
+    counts: Counts,
+    magnitudes: Magnitudes,
     room: &mut [f64],
     q_free: &mut [f64],
     e_free: &mut [f64],
     gram: &mut [f64],
-    ks: &mut [f64],
-    es: &mut [f64],
-    left: &mut [f64],
-    coefficients: &mut [f64],
-    range: &mut [f64],
-    qq: &mut [f64],
-    null: &mut [f64],
-    h: &mut [f64],
-    vectors: &mut [f64],
     l: &mut [f64],
 ) -> Made
-    requires { ⌜ Shaped originals n m (now q) (now c) (now e) (now b)
-        × AllCut n segments
-        × Kept n segments iterate
-        × (length (now fixed) ≡ n)
-        × Room originals n m (now room) (now «q_free») (now «e_free») (now gram) (now ks) (now es) (now left) (now coefficients) (now range)
-        (now qq) (now null) (now h) (now vectors)
-        × Good originals factoring (now l)
-        × (originals * originals ≤ length (now l)) ⌝ }
-    ensures { λ r. ⌜ madeOf n m r (now (l .exit))
-        ≡ Definition.pass (problem originals n m (now (q .entry)) (now (c .entry)) (now (e .entry)) (now (b .entry))) segments
-        (now (fixed .entry)) «q_amax» linear (state iterate factoring (now (l .entry))) ⌝ }
-    ensures { λ r. ⌜ Kept n segments (r .passed .iterate) × Good originals (r .factoring) (now (l .exit)) ⌝ }
+    requires { ⌜ Shaped (counts .originals) (counts .n) (counts .m) (now q) (now c) (now e) (now b)
+        × AllCut (counts .n) segments
+        × Kept (counts .n) segments iterate
+        × (length (now fixed) ≡ counts .n)
+        × Room (counts .originals) (counts .n) (counts .m) (now room) (now «q_free») (now «e_free») (now gram)
+        × Good (counts .originals) factoring (now l)
+        × (counts .originals * counts .originals ≤ length (now l)) ⌝ }
+    ensures { λ r. ⌜ madeOf (counts .n) (counts .m) r (now (l .exit))
+        ≡ Definition.pass (problem (counts .originals) (counts .n) (counts .m) (now (q .entry)) (now (c .entry)) (now (e .entry)) (now (b .entry))) segments
+        (now (fixed .entry)) (magnitudes .q) (magnitudes .linear) (state iterate factoring (now (l .entry))) ⌝ }
+    ensures { λ r. ⌜ Kept (counts .n) segments (r .passed .iterate) × Good (counts .originals) (r .factoring) (now (l .exit)) ⌝ }
 {
     let board = iterate.board;
     let state = board.state;
     let mut indices = [0; sizes::VARIABLES];
-    let count = free_list::free_indices(state, n, &mut indices);
-    with_indices(
+    let count = free_list::free_indices(state, counts.n, &mut indices);
+    pass_over(
         iterate,
         factoring,
         segments,
@@ -158,25 +301,13 @@ pub fn pass(
         c,
         e,
         b,
-        n,
-        m,
-        originals,
-        q_amax,
-        linear,
+        counts,
+        magnitudes,
         &indices[..count],
         room,
         q_free,
         e_free,
         gram,
-        ks,
-        es,
-        left,
-        coefficients,
-        range,
-        qq,
-        null,
-        h,
-        vectors,
         l,
     )
 }

@@ -1,47 +1,61 @@
--- Laws of the definitions: a column that is found is one of E's, and so is each that is taken; where the loop starts.
-use mathlib.Core.Path.{_≡_, refl, _∙_}
+-- Laws of the definitions: a column that is found is one of E's, the last of the largest, and so is each that is taken; where the loop starts.
+use mathlib.Core.Path.{_≡_, refl, sym, ap, _∙_}
 use mathlib.Core.Bool.{Bool, true, false}
 use mathlib.Core.List.{List, [], _∷_, _++_}
 use Prim.Native.Nat.{ℕ, zero, suc, _*_, _<_, _≤_}
 use native.Mathlib.Nat.{not-suc-le-zero}
 use native.Mathlib.Omega.{arith}
-use lib.ListN.{length, take, getD, replicate}
+use lib.ListN.{length, take, replicate}
 use lib.Seq.{length-take-le, getD-take}
 use lib.Ieee.{Float, le}
-use Rattle.folds.specs.Fold.{fold, walk, tab, pick, out, ended, fold-keep, walk-keep, pick-keep}
+use Rattle.folds.specs.Fold.{tab, pick, out, ended, walk-keep}
+use Rattle.folds.specs.Best.{Best, nothing, found, bestOf, lastLargest, Wins, last-largest}
 use Rattle.folds.specs.Part.{Two, two}
 use Rattle.folds.specs.Tab.{take-replicate}
 use Rattle.arith.specs.Float.{f0}
 use Rattle.arith.specs.Scalar.{totalLess}
+use Rattle.arith.specs.Laws.{total-through, total-passes}
 use Rattle.vector.specs.Vector.{copy, filled, Below}
-use Rattle.pivoting.specs.Pivoting.{better, betterOne, largestColumn, columnNorm, remains}
+use Rattle.pivoting.specs.Pivoting.{offered, asBest, asLargest, atLeast, largestColumn}
 use Rattle.pivoting.specs.Pivoting.{Pivoting, pivoting, withBasis, taken, choose, pivotStep, pivoted, tolerance, factored, stateOf, Taken}
 use Rattle.pivoting.specs.declared.Pivots.{Pivots}
 use Rattle.pivoting.specs.declared.Largest.{Largest}
 use Rattle.pivoting.specs.declared.Largest.the-variants.{Found, Nothing}
 
--- ---- a column that is found is one of E's
-unfoldable FoundBelow : ℕ → Largest → Type 0
-FoundBelow m (Found j norm) = j < m
-FoundBelow m Nothing = Unit
+-- ---- the code's loop: the largest of what it has seen, as `Best` has it
+as-largest : (l : Largest) → l ≡ asLargest (asBest l)
+unfolding asBest asLargest
+as-largest (Found j norm) = refl
+as-largest Nothing = refl
 
-module _ (m j : ℕ) (h : j < m) where
-  better-below : (norm : Float) (best : Largest) → FoundBelow m best → FoundBelow m (better j norm best)
-  unfolding FoundBelow better
-  better-below norm Nothing p = h
-  better-below norm (Found l value) p = pick-keep (FoundBelow m) (totalLess norm value) {x = Found l value} {y = Found j norm} p h
+as-best : (b : Best (ℕ × Float)) → asBest (asLargest b) ≡ b
+unfolding asBest asLargest
+as-best (found c) = refl
+as-best nothing = refl
 
-largest-below : (n m : ℕ) (left : List Float) (remaining : List Bool) → FoundBelow m (largestColumn n m left remaining)
-unfolding largestColumn betterOne FoundBelow
-largest-below n m left remaining =
-    fold-keep (FoundBelow m) m (betterOne n left remaining) Nothing tt
-    (λ j best h p. pick-keep (FoundBelow m) (remains remaining j) {x = better j (columnNorm n left j) best} {y = best}
-    (better-below m j h (columnNorm n left j) best p) p)
+-- a column gives its own number
+own : (b : Bool) (c d : ℕ × Float) → pick b (found c) nothing ≡ found d → c .0 ≡ d .0
+unfolding pick
+own true c d e = cc
+own false c d e = cc
 
-pub found-below : (n m : ℕ) (left : List Float) (remaining : List Bool) (j : ℕ) (norm : Float) →
-    Found j norm ≡ largestColumn n m left remaining → j < m
-unfolding FoundBelow
-found-below n m left remaining j norm e = rw (← e) at (largest-below n m left remaining)
+module _ (n m : ℕ) (left : List Float) (remaining : List Bool) where
+  pub largest-end : {l : Largest} → asBest l ≡ bestOf atLeast m (offered n left remaining) → l ≡ largestColumn n m left remaining
+  unfolding largestColumn lastLargest
+  largest-end {l} e = as-largest l ∙ ap asLargest e
+
+  module _ (j : ℕ) (norm : Float) (e : Found j norm ≡ largestColumn n m left remaining) where
+    -- of equal norms the last: none before column j's is larger, and each after it is smaller
+    pub largest-last : (w : Wins atLeast m (offered n left remaining) (j, norm)) × (w .index ≡ j)
+    unfolding largestColumn asBest offered
+    largest-last =
+        let g : lastLargest (λ (a b : ℕ × Float). totalLess (a .1) (b .1)) m _ ≡ found (j, norm) = sym (as-best _) ∙ ap asBest (sym e) in
+        let w = last-largest _ (λ a b c. total-through (a .1) (b .1) (c .1)) (λ a b c. total-passes (a .1) (b .1) (c .1)) m _ _ g in
+        (w, own _ _ _ (w .gives))
+
+    -- so it is one of E's
+    pub found-below : j < m
+    found-below = rw (largest-last .1) at (largest-last .0 .below)
 
 -- ---- the columns taken
 abbrev pivotsOf : Pivoting → List ℕ
@@ -73,16 +87,16 @@ module _ (n m p : ℕ) (tol : Float) (row : ℕ) where
   unfolding taken
   taking-below j norm (pivoting left coefficients basis pivots remaining) l q = with-basis-below _ _ _ _ _ (push-below m j pivots l q)
 
-  choose-below : (found : Largest) (s : Pivoting) → FoundBelow m found → AllBelow m (pivotsOf s) →
-      AllBelow m (pivotsOf (ended (choose n m p tol row found s)))
-  unfolding choose FoundBelow ended
+  choose-below : (l : Largest) (s : Pivoting) → ((j : ℕ) (norm : Float) → Found j norm ≡ l → j < m) → AllBelow m (pivotsOf s) →
+      AllBelow m (pivotsOf (ended (choose n m p tol row l s)))
+  unfolding choose ended
   choose-below Nothing s f q = q
-  choose-below (Found j norm) s f q = ended-pick (le norm tol) s (taken n m p row j norm s) q (taking-below j norm s f q)
+  choose-below (Found j norm) s f q = ended-pick (le norm tol) s (taken n m p row j norm s) q (taking-below j norm s (f j norm refl) q)
 
   step-below : (s : Pivoting) → AllBelow m (pivotsOf s) → AllBelow m (pivotsOf (ended (pivotStep n m p tol row s)))
   unfolding pivotStep
   step-below (pivoting left coefficients basis pivots remaining) q =
-      choose-below (largestColumn n m left remaining) (pivoting left coefficients basis pivots remaining) (largest-below n m left remaining) q
+      choose-below (largestColumn n m left remaining) (pivoting left coefficients basis pivots remaining) (found-below n m left remaining) q
 
 factored-below : (n m p : ℕ) (e : List Float) → AllBelow m (pivotsOf (factored n m p e))
 unfolding factored pivoted

@@ -2,11 +2,12 @@
 -- E is n by m, p = min(n, m). Y has n rows and p columns, of which the first `rank` count; T has p rows, of which the first `rank` count, and m
 -- columns.
 use Prim.Native.Nat.{ℕ, _+_, _*_, _≤_, max}
-use mathlib.Core.Bool.{Bool, true, false}
+use mathlib.Core.Bool.{Bool, true, false, not}
 use mathlib.Core.List.{List, [], _∷_, _++_}
 use lib.ListN.{set, take, getD}
 use lib.Ieee.{Float, le}
 use Rattle.folds.specs.Fold.{fold, walk, tab, pick, Out, out, ended}
+use Rattle.folds.specs.Best.{Best, nothing, found, lastLargest}
 use Rattle.folds.specs.Part.{Two, two}
 use Rattle.arith.specs.Float.{fadd, fsub, fmul, f0, epsilon, fromℕ, at}
 use Rattle.arith.specs.Scalar.{max as fmax, totalLess}
@@ -33,16 +34,24 @@ tolerance n m e = fmul (fmul (fromℕ (max n m)) epsilon) (largestNorm n m e)
 abbrev pub remains : (remaining : List Bool) (j : ℕ) → Bool
 remains remaining j = getD remaining j false
 
--- `max_by` keeps the last of equals
-unfoldable pub better : (j : ℕ) (norm : Float) → Largest → Largest
-better j norm Nothing = Found j norm
-better j norm (Found l best) = pick (totalLess norm best) (Found l best) (Found j norm)
+unfoldable pub offered : (n : ℕ) (left : List Float) (remaining : List Bool) (j : ℕ) → Best (ℕ × Float)
+offered n left remaining j = pick (remains remaining j) (found (j, columnNorm n left j)) nothing
 
-unfoldable pub betterOne : (n : ℕ) (left : List Float) (remaining : List Bool) (j : ℕ) → Largest → Largest
-betterOne n left remaining j best = pick (remains remaining j) (better j (columnNorm n left j) best) best
+-- the code's enum is the source's `Option<(usize, f64)>`
+unfoldable pub asBest : Largest → Best (ℕ × Float)
+asBest (Found j norm) = found (j, norm)
+asBest Nothing = nothing
 
+unfoldable pub asLargest : Best (ℕ × Float) → Largest
+asLargest (found c) = Found (c .0) (c .1)
+asLargest nothing = Nothing
+
+abbrev pub atLeast : (new old : ℕ × Float) → Bool
+atLeast new old = not (totalLess (new .1) (old .1))
+
+-- `remaining.iter().map(..).enumerate().max_by(|a, b| a.1.total_cmp(&b.1))`: of equal norms the last
 unfoldable pub largestColumn : (n m : ℕ) (left : List Float) (remaining : List Bool) → Largest
-largestColumn n m left remaining = fold m (betterOne n left remaining) Nothing
+largestColumn n m left remaining = asLargest (lastLargest (λ a b. totalLess (a .1) (b .1)) m (offered n left remaining))
 
 -- ---- y is taken out of the remaining columns
 -- `left.column(l) - &y * t`, set as column l

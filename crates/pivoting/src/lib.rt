@@ -6,12 +6,13 @@ ghost use mathlib.Core.Bool.{true, false};
 ghost use mathlib.Core.List.{[], _∷_, _++_};
 ghost use lib.ListN.{length, set, take, replicate};
 ghost use Rattle.folds.specs.Fold.{out, pick};
+ghost use Rattle.folds.specs.Best.{found, better};
 ghost use Rattle.folds.specs.Part.{two};
 ghost use Rattle.sizes.specs.Sizes as Sizes;
 ghost use Rattle.arith.specs.Float.{at};
 ghost use Rattle.matrix.specs.Matrix.{putColumn};
 ghost use Rattle.pivoting.specs.Pivoting as Pivoting;
-ghost use Rattle.pivoting.specs.Pivoting.{stateOf, Taken};
+ghost use Rattle.pivoting.specs.Pivoting.{asBest, atLeast, stateOf, Taken};
 
 // The remaining column of the largest norm, as `max_by` has it.
 pub enum Largest {
@@ -65,7 +66,7 @@ fn tolerance(e: &[f64], n: usize, m: usize) -> f64
 }
 
 fn better(j: usize, norm: f64, best: Largest) -> Largest
-    ensures { λ r. ⌜ r ≡ Pivoting.better j norm best ⌝ }
+    ensures { λ r. ⌜ asBest r ≡ better atLeast (asBest best) (found (j, norm)) ⌝ }
 {
     let Largest::Found(_, value) = best else {
         return Largest::Found(j, norm);
@@ -85,7 +86,7 @@ fn better_one(
     best: Largest,
 ) -> Largest
     requires { ⌜ (n * m ≤ length (now left)) × (m ≤ length (now remaining)) × (j < m) ⌝ }
-    ensures { λ r. ⌜ r ≡ Pivoting.betterOne n (now (left .entry)) (now (remaining .entry)) j best ⌝ }
+    ensures { λ r. ⌜ asBest r ≡ better atLeast (asBest best) (Pivoting.offered n (now (left .entry)) (now (remaining .entry)) j) ⌝ }
 {
     if remaining[j] {
         return better(j, column_norm(left, n, m, j), best);

@@ -1,12 +1,12 @@
-// qp.rs, `descent_ray`. Q is n by n, E is n by m, with up to 32 variables and 24 columns. The slices that end a function's parameters are work
-// memory, of n * n entries (ks, room, null, h, vectors) or n * m (es, left, coefficients, range).
+// qp.rs, `descent_ray`. Q is n by n, E is n by m, with up to 32 variables and 24 columns. The `&mut` slices from `room`, `coefficients` or `ks` on
+// are work memory.
 ghost use mathlib.Core.Path.{_≡_};
 ghost use mathlib.Core.Bool.{false};
 ghost use Prim.Native.Nat.{_≤_, _<_, _*_};
 ghost use lib.ListN.{length, take};
 ghost use Rattle.sizes.specs.Sizes as Sizes;
 ghost use Rattle.vector.specs.Vector.{Below};
-ghost use Rattle.noisy_kkt.specs.Room.{Squares, Tall};
+ghost use Rattle.constraints.specs.Room.{Room};
 ghost use Rattle.ray.specs.Ray as Definition;
 use scaled::Scale;
 
@@ -119,7 +119,7 @@ fn beyond_rounding(direction: [f64; sizes::VARIABLES], c: &[f64], n: usize) -> R
 }
 
 // The ray over Z, of d columns.
-fn ray_over(
+fn ray_over_in(
     k: &[f64],
     c: &[f64],
     z: &[f64],
@@ -150,6 +150,50 @@ fn ray_over(
     refused()
 }
 
+fn ray_over_small(k: &[f64], c: &[f64], z: &[f64], n: usize, d: usize) -> Ray
+    requires { ⌜ (n ≤ Sizes.originals)
+        × (d ≤ n)
+        × (n * n ≤ length (now k))
+        × (n ≤ length (now c))
+        × (n * d ≤ length (now z))
+        × (n ≤ Sizes.few) ⌝ }
+    ensures { λ r. ⌜ Definition.rayOf n r ≡ Definition.rayOver n d (now (k .entry)) (now (c .entry)) (now (z .entry)) ⌝ }
+{
+    let mut room = [0.0; sizes::SMALL];
+    let mut h = [0.0; sizes::SMALL];
+    let mut vectors = [0.0; sizes::SMALL];
+    ray_over_in(k, c, z, n, d, &mut room, &mut h, &mut vectors)
+}
+
+fn ray_over_large(k: &[f64], c: &[f64], z: &[f64], n: usize, d: usize) -> Ray
+    requires { ⌜ (n ≤ Sizes.originals)
+        × (d ≤ n)
+        × (n * n ≤ length (now k))
+        × (n ≤ length (now c))
+        × (n * d ≤ length (now z)) ⌝ }
+    ensures { λ r. ⌜ Definition.rayOf n r ≡ Definition.rayOver n d (now (k .entry)) (now (c .entry)) (now (z .entry)) ⌝ }
+{
+    let mut room = [0.0; sizes::SQUARE];
+    let mut h = [0.0; sizes::SQUARE];
+    let mut vectors = [0.0; sizes::SQUARE];
+    ray_over_in(k, c, z, n, d, &mut room, &mut h, &mut vectors)
+}
+
+// The same in work memory of its size.
+fn ray_over(k: &[f64], c: &[f64], z: &[f64], n: usize, d: usize) -> Ray
+    requires { ⌜ (n ≤ Sizes.originals)
+        × (d ≤ n)
+        × (n * n ≤ length (now k))
+        × (n ≤ length (now c))
+        × (n * d ≤ length (now z)) ⌝ }
+    ensures { λ r. ⌜ Definition.rayOf n r ≡ Definition.rayOver n d (now (k .entry)) (now (c .entry)) (now (z .entry)) ⌝ }
+{
+    if n <= sizes::FEW {
+        return ray_over_small(k, c, z, n, d);
+    }
+    ray_over_large(k, c, z, n, d)
+}
+
 // The ray of a problem that is scaled; c is not.
 fn ray_scaled(
     k: &[f64],
@@ -157,32 +201,24 @@ fn ray_scaled(
     e: &[f64],
     n: usize,
     m: usize,
-    left: &mut [f64],
     coefficients: &mut [f64],
     range: &mut [f64],
-    room: &mut [f64],
     null: &mut [f64],
-    h: &mut [f64],
-    vectors: &mut [f64],
 ) -> Ray
-    requires { ⌜ (n ≤ Sizes.originals)
-        × (m ≤ Sizes.columns)
-        × (n * n ≤ length (now k))
+    requires { ⌜ (n * n ≤ length (now k))
         × (n ≤ length (now c))
-        × (n * m ≤ length (now e))
-        × Tall n m (now left) (now coefficients) (now range)
-        × Squares n (now room) (now null) (now h) (now vectors) ⌝ }
+        × Room n m (now e) (now coefficients) (now range) (now null) ⌝ }
     ensures { λ r. ⌜ Definition.rayOf n r ≡ Definition.rayScaled n m (now (k .entry)) (now (c .entry)) (now (e .entry)) ⌝ }
 {
-    let pivots = constraints::new(e, n, m, left, coefficients, range, room, null);
+    let pivots = constraints::new(e, n, m, coefficients, range, null);
     let rank = pivots.rank;
     let d = n - rank;
     let entries = n * d;
-    ray_over(k, c, &null[..entries], n, d, room, h, vectors)
+    ray_over(k, c, &null[..entries], n, d)
 }
 
 // `Scaled::new` with Q's scale, and the ray.
-fn ray_by(
+fn ray_by_in(
     q: &[f64],
     c: &[f64],
     e: &[f64],
@@ -191,13 +227,9 @@ fn ray_by(
     scale: f64,
     ks: &mut [f64],
     es: &mut [f64],
-    left: &mut [f64],
     coefficients: &mut [f64],
     range: &mut [f64],
-    room: &mut [f64],
     null: &mut [f64],
-    h: &mut [f64],
-    vectors: &mut [f64],
 ) -> Ray
     requires { ⌜ (n ≤ Sizes.originals)
         × (m ≤ Sizes.columns)
@@ -206,8 +238,9 @@ fn ray_by(
         × (n * m ≤ length (now e))
         × (n * n ≤ length (now ks))
         × (n * m ≤ length (now es))
-        × Tall n m (now left) (now coefficients) (now range)
-        × Squares n (now room) (now null) (now h) (now vectors) ⌝ }
+        × (n * m ≤ length (now coefficients))
+        × (n * m ≤ length (now range))
+        × (n * n ≤ length (now null)) ⌝ }
     ensures { λ r. ⌜ Definition.rayOf n r ≡ Definition.rayBy n m (now (q .entry)) (now (c .entry)) (now (e .entry)) scale ⌝ }
 {
     let columns = scaled::column_scales(e, n, m);
@@ -221,61 +254,97 @@ fn ray_by(
         &es[..entries],
         n,
         m,
-        left,
         coefficients,
         range,
-        room,
         null,
-        h,
-        vectors,
     )
 }
 
-pub fn descent_ray(
-    q: &[f64],
-    c: &[f64],
-    e: &[f64],
-    n: usize,
-    m: usize,
-    ks: &mut [f64],
-    es: &mut [f64],
-    left: &mut [f64],
-    coefficients: &mut [f64],
-    range: &mut [f64],
-    room: &mut [f64],
-    null: &mut [f64],
-    h: &mut [f64],
-    vectors: &mut [f64],
-) -> Ray
+fn ray_by_small(q: &[f64], c: &[f64], e: &[f64], n: usize, m: usize, scale: f64) -> Ray
     requires { ⌜ (n ≤ Sizes.originals)
         × (m ≤ Sizes.columns)
         × (n * n ≤ length (now q))
         × (n ≤ length (now c))
         × (n * m ≤ length (now e))
-        × (n * n ≤ length (now ks))
-        × (n * m ≤ length (now es))
-        × Tall n m (now left) (now coefficients) (now range)
-        × Squares n (now room) (now null) (now h) (now vectors) ⌝ }
+        × (n ≤ Sizes.few)
+        × (m ≤ Sizes.few) ⌝ }
+    ensures { λ r. ⌜ Definition.rayOf n r ≡ Definition.rayBy n m (now (q .entry)) (now (c .entry)) (now (e .entry)) scale ⌝ }
+{
+    let mut ks = [0.0; sizes::SMALL];
+    let mut es = [0.0; sizes::SMALL];
+    let mut coefficients = [0.0; sizes::SMALL];
+    let mut range = [0.0; sizes::SMALL];
+    let mut null = [0.0; sizes::SMALL];
+    ray_by_in(
+        q,
+        c,
+        e,
+        n,
+        m,
+        scale,
+        &mut ks,
+        &mut es,
+        &mut coefficients,
+        &mut range,
+        &mut null,
+    )
+}
+
+fn ray_by_large(q: &[f64], c: &[f64], e: &[f64], n: usize, m: usize, scale: f64) -> Ray
+    requires { ⌜ (n ≤ Sizes.originals)
+        × (m ≤ Sizes.columns)
+        × (n * n ≤ length (now q))
+        × (n ≤ length (now c))
+        × (n * m ≤ length (now e)) ⌝ }
+    ensures { λ r. ⌜ Definition.rayOf n r ≡ Definition.rayBy n m (now (q .entry)) (now (c .entry)) (now (e .entry)) scale ⌝ }
+{
+    let mut ks = [0.0; sizes::SQUARE];
+    let mut es = [0.0; sizes::TALL];
+    let mut coefficients = [0.0; sizes::TALL];
+    let mut range = [0.0; sizes::TALL];
+    let mut null = [0.0; sizes::SQUARE];
+    ray_by_in(
+        q,
+        c,
+        e,
+        n,
+        m,
+        scale,
+        &mut ks,
+        &mut es,
+        &mut coefficients,
+        &mut range,
+        &mut null,
+    )
+}
+
+// The same in work memory of its size.
+fn ray_by(q: &[f64], c: &[f64], e: &[f64], n: usize, m: usize, scale: f64) -> Ray
+    requires { ⌜ (n ≤ Sizes.originals)
+        × (m ≤ Sizes.columns)
+        × (n * n ≤ length (now q))
+        × (n ≤ length (now c))
+        × (n * m ≤ length (now e)) ⌝ }
+    ensures { λ r. ⌜ Definition.rayOf n r ≡ Definition.rayBy n m (now (q .entry)) (now (c .entry)) (now (e .entry)) scale ⌝ }
+{
+    if n <= sizes::FEW {
+        if m <= sizes::FEW {
+            return ray_by_small(q, c, e, n, m, scale);
+        }
+    }
+    ray_by_large(q, c, e, n, m, scale)
+}
+
+pub fn descent_ray(q: &[f64], c: &[f64], e: &[f64], n: usize, m: usize) -> Ray
+    requires { ⌜ (n ≤ Sizes.originals)
+        × (m ≤ Sizes.columns)
+        × (n * n ≤ length (now q))
+        × (n ≤ length (now c))
+        × (n * m ≤ length (now e)) ⌝ }
     ensures { λ r. ⌜ Definition.rayOf n r ≡ Definition.descentRay n m (now (q .entry)) (now (c .entry)) (now (e .entry)) ⌝ }
 {
     match scaled::k_scale(q, n) {
-        Scale::By(scale) => ray_by(
-            q,
-            c,
-            e,
-            n,
-            m,
-            scale,
-            ks,
-            es,
-            left,
-            coefficients,
-            range,
-            room,
-            null,
-            h,
-            vectors,
-        ),
+        Scale::By(scale) => ray_by(q, c, e, n, m, scale),
         Scale::Refused => refused(),
     }
 }

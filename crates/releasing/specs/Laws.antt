@@ -1,17 +1,18 @@
--- A law of the definitions: the variable that enters is one of the n, and it is left free in one of its segments.
-use mathlib.Core.Path.{_≡_}
-use mathlib.Core.Bool.{Bool, false}
+-- Laws of the definitions: the variable that enters is one of the n, the last of the fastest, and it is left free in one of its segments.
+use mathlib.Core.Path.{_≡_, refl, sym, ap, _∙_}
+use mathlib.Core.Bool.{Bool, true, false}
 use mathlib.Core.List.{List}
 use Prim.Native.Nat.{ℕ, _-_, _<_, _≤_}
 use native.Mathlib.Omega.{arith}
 use lib.Dec.{ltb}
-use lib.ListN.{getD}
 use lib.Ieee.{Float, lt}
 use borrow.Author.Tests.{ltb-true}
-use Rattle.folds.specs.Fold.{fold-keep, pick-keep, pick-by}
+use Rattle.folds.specs.Fold.{pick, pick-keep, pick-by}
+use Rattle.folds.specs.Best.{Best, nothing, found, bestOf, lastLargest, Wins, last-largest}
 use Rattle.arith.specs.Float.{fadd, fmul, fneg, at}
 use Rattle.arith.specs.Scalar.{totalLess}
-use Rattle.segments.specs.Segments.{last, Placed, segmentsAt, stateAt, AllPlaced}
+use Rattle.arith.specs.Laws.{total-through, total-passes}
+use Rattle.segments.specs.Segments.{last, Placed, segmentsAt, AllPlaced}
 use Rattle.segments.specs.declared.Segments.{Segments}
 use Rattle.segments.specs.declared.State.{State}
 use Rattle.segments.specs.declared.State.the-variants.{At, Free}
@@ -20,9 +21,9 @@ use Rattle.releasing.specs.declared.Descent.{Descent}
 use Rattle.releasing.specs.declared.Descent.the-variants.{Into, Nowhere}
 use Rattle.releasing.specs.declared.Fastest.{Fastest}
 use Rattle.releasing.specs.declared.Fastest.the-variants.{Found, Nothing}
-use Rattle.releasing.specs.declared.Outcome.{Outcome}
-use Rattle.releasing.specs.declared.Outcome.the-variants.{Enter, Answer, NotConverged}
-use Rattle.releasing.specs.Release.{counted, up, down, orElse, heldDescent, ofState, wrongOne, wrong, faster, ofWrong, fasterOne, entering, anyWrong, outcome, tiny, release}
+use Rattle.releasing.specs.declared.Outcome.the-variants.{Enter}
+use Rattle.releasing.specs.Release.{counted, up, down, orElse, heldDescent, ofState, wrongOne, wrong, offered, offers, asBest, asFastest}
+use Rattle.releasing.specs.Release.{atLeast, entering, outcome, tiny, release}
 
 -- into one of the segments of s
 unfoldable IntoOne : Segments → Descent → Type 0
@@ -60,47 +61,53 @@ module _ (s : Segments) (nu least : Float) where
   unfolding wrongOne IntoOne
   wrong-one fixed t h = pick-keep (IntoOne s) fixed {x = Nowhere} {y = ofState t s nu least} tt (state-one t h)
 
-module _ (n : ℕ) (segments : List Segments) where
-  unfoldable EntersOne : Fastest → Type 0
-  EntersOne (Found rate i j) = (i < n) × (j < last (segmentsAt segments i))
-  EntersOne Nothing = Unit {0}
+-- ---- the code's loop: the fastest of what it has seen, as `Best` has it
+as-fastest : (f : Fastest) → f ≡ asFastest (asBest f)
+unfolding asBest asFastest
+as-fastest (Found rate i j) = refl
+as-fastest Nothing = refl
 
-  faster-one : (best : Fastest) (i : ℕ) (rate : Float) (j : ℕ) → i < n → j < last (segmentsAt segments i) → EntersOne best →
-      EntersOne (faster best i rate j)
-  unfolding faster EntersOne
-  faster-one Nothing i rate j h l p = (h, l)
-  faster-one (Found largest k t) i rate j h l p =
-      pick-keep EntersOne (totalLess rate largest) {x = Found largest k t} {y = Found rate i j} p (h, l)
+as-best : (b : Best (Float × ℕ × ℕ)) → asBest (asFastest b) ≡ b
+unfolding asBest asFastest
+as-best (found f) = refl
+as-best nothing = refl
 
-  of-one : (w : Descent) (i : ℕ) (best : Fastest) → i < n → IntoOne (segmentsAt segments i) w → EntersOne best → EntersOne (ofWrong w i best)
-  unfolding ofWrong IntoOne
-  of-one (Into rate j) i best h l p = faster-one best i rate j h l p
-  of-one Nowhere i best h l p = p
+-- a variable offers its own move
+own : (refused : Bool) (w : Descent) (i : ℕ) (o : Float × ℕ × ℕ) → offered refused w i ≡ found o → (i ≡ o .1) × (w ≡ Into (o .0) (o .2))
+unfolding offered
+own false (Into rate j) i o e = (cc, cc)
+own false Nowhere i o e = (cc, cc)
+own true w i o e = (cc, cc)
 
-  module _ (state : List Spot) (placed : AllPlaced n segments state) (fixed refused : List Bool) (gradient pushback : List Float) where
-    entering-one : (least : Float) → EntersOne (entering n segments state fixed refused gradient pushback least)
-    unfolding entering fasterOne wrong EntersOne
-    entering-one least =
-        let w : ℕ → Descent = wrong segments state fixed gradient pushback least in
-        fold-keep EntersOne n (λ i best. fasterOne (getD refused i false) (w i) i best) Nothing tt
-        (λ i best h p. pick-keep EntersOne (getD refused i false) {x = best} {y = ofWrong (w i) i best} p
-        (of-one _ i best h (wrong-one (segmentsAt segments i) _ least (getD fixed i false) (stateAt state i) (placed i h)) p))
+module _ (n : ℕ) (segments : List Segments) (state : List Spot) (fixed refused : List Bool) (gradient pushback : List Float) (least : Float) where
+  pub entering-end : {f : Fastest} → asBest f ≡ bestOf atLeast n (offers segments state fixed refused gradient pushback least) →
+      f ≡ entering n segments state fixed refused gradient pushback least
+  unfolding entering lastLargest
+  entering-end {f} e = as-fastest f ∙ ap asFastest e
 
-    -- of an outcome
-    unfoldable Within : Outcome → Type 0
-    Within (Enter i j) = (i < n) × (j < last (segmentsAt segments i))
-    Within Answer = Unit {0}
-    Within NotConverged = Unit {0}
+  -- of equal rates the last: none before variable i's is larger, and each after it is smaller
+  pub entering-last : {rate : Float} {i j : ℕ} → Found rate i j ≡ entering n segments state fixed refused gradient pushback least →
+      (w : Wins atLeast n (offers segments state fixed refused gradient pushback least) (rate, i, j)) × (w .index ≡ i)
+  unfolding entering asBest
+  entering-last {rate} {i} {j} e =
+      let g : lastLargest (λ (a b : Float × ℕ × ℕ). totalLess (a .0) (b .0)) n _ ≡ found (rate, i, j) = sym (as-best _) ∙ ap asBest (sym e) in
+      let w = last-largest _ (λ a b c. total-through (a .0) (b .0) (c .0)) (λ a b c. total-passes (a .0) (b .0) (c .0)) n _ _ g in
+      (w, own _ _ _ _ (w .gives) .0)
 
-    outcome-one : (f : Fastest) (any : Bool) → EntersOne f → Within (outcome f any)
-    unfolding outcome EntersOne Within
-    outcome-one (Found rate i j) any p = p
-    outcome-one Nothing any p = pick-keep Within any {x = NotConverged} {y = Answer} tt tt
+outcome-enter : (f : Fastest) (any : Bool) (i j : ℕ) → Enter i j ≡ outcome f any → (rate : Float) × (Found rate i j ≡ f)
+unfolding outcome pick
+outcome-enter (Found rate k l) any i j e = (rate, cc)
+outcome-enter Nothing true i j e = absurd (let z : _≡_ {A = ℕ} 0 1 = cc in omega arith)
+outcome-enter Nothing false i j e = absurd (let z : _≡_ {A = ℕ} 0 1 = cc in omega arith)
 
-    pub entered : (scale : Float) (i j : ℕ) → Enter i j ≡ release n segments state fixed refused gradient pushback scale →
-        (i < n) × (j < last (segmentsAt segments i))
-    unfolding release Within
-    entered scale i j e =
-        let least = fmul tiny scale in
-        let f = entering n segments state fixed refused gradient pushback least in
-        rw (← e) at (outcome-one f (anyWrong n segments state fixed gradient pushback least) (entering-one least))
+module _ (n : ℕ) (segments : List Segments) (state : List Spot) (placed : AllPlaced n segments state) (fixed refused : List Bool)
+    (gradient pushback : List Float) where
+  pub entered : (scale : Float) (i j : ℕ) → Enter i j ≡ release n segments state fixed refused gradient pushback scale →
+      (i < n) × (j < last (segmentsAt segments i))
+  unfolding release wrong IntoOne
+  entered scale i j e =
+      let least = fmul tiny scale in
+      let w = entering-last n segments state fixed refused gradient pushback least (outcome-enter _ _ i j e .1) in
+      let k = w .0 .index in
+      let one : IntoOne (segmentsAt segments k) (wrong segments state fixed gradient pushback least k) = wrong-one _ _ _ _ _ (placed k (w .0 .below)) in
+      rw (← w .1) (w .0 .below, rw (own _ _ _ _ (w .0 .gives) .1) at one)

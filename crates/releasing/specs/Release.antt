@@ -1,11 +1,12 @@
 -- qp.rs, the release in `solve_piecewise_in_units`: the held variable that lowers the objective fastest by moving into a segment next to it.
 use Prim.Native.Nat.{ℕ, _-_}
-use mathlib.Core.Bool.{Bool, true, false}
+use mathlib.Core.Bool.{Bool, true, false, not}
 use mathlib.Core.List.{List}
 use lib.Dec.{ltb}
 use lib.ListN.{getD}
 use lib.Ieee.{Float, binary64, ofBits, lt}
-use Rattle.folds.specs.Fold.{fold, pick, some}
+use Rattle.folds.specs.Fold.{pick, some}
+use Rattle.folds.specs.Best.{Best, nothing, found, lastLargest}
 use Rattle.arith.specs.Float.{fadd, fmul, fneg, at}
 use Rattle.arith.specs.Scalar.{totalLess}
 use Rattle.segments.specs.Segments.{last, segmentsAt, stateAt}
@@ -55,25 +56,34 @@ unfoldable pub wrong : (segments : List Segments) (state : List Spot) (fixed : L
 wrong segments state fixed gradient pushback least i =
     wrongOne (getD fixed i false) (stateAt state i) (segmentsAt segments i) (fadd (at gradient i) (at pushback i)) least
 
--- `.max_by(|a, b| a.0.total_cmp(&b.0))`: the last of equals
-unfoldable pub faster : (best : Fastest) (i : ℕ) (rate : Float) (segment : ℕ) → Fastest
-faster Nothing i rate segment = Found rate i segment
-faster (Found largest l t) i rate segment = pick (totalLess rate largest) (Found largest l t) (Found rate i segment)
+-- what variable i offers: `.filter(|&&(_, i, _)| !refused[i])`
+unfoldable pub offered : (refused : Bool) (wrong : Descent) (i : ℕ) → Best (Float × ℕ × ℕ)
+offered true wrong i = nothing
+offered false (Into rate segment) i = found (rate, i, segment)
+offered false Nowhere i = nothing
 
--- of the moves that count
-unfoldable pub ofWrong : (wrong : Descent) (i : ℕ) (best : Fastest) → Fastest
-ofWrong (Into rate segment) i best = faster best i rate segment
-ofWrong Nowhere i best = best
+abbrev pub offers : (segments : List Segments) (state : List Spot) (fixed refused : List Bool) (gradient pushback : List Float) (least : Float)
+    (i : ℕ) → Best (Float × ℕ × ℕ)
+offers segments state fixed refused gradient pushback least i =
+    offered (getD refused i false) (wrong segments state fixed gradient pushback least i) i
 
--- `.filter(|&&(_, i, _)| !refused[i])`
-unfoldable pub fasterOne : (refused : Bool) (wrong : Descent) (i : ℕ) (best : Fastest) → Fastest
-fasterOne refused wrong i best = pick refused best (ofWrong wrong i best)
+-- the code's enum is the source's `Option<(f64, usize, usize)>`
+unfoldable pub asBest : Fastest → Best (Float × ℕ × ℕ)
+asBest (Found rate i segment) = found (rate, i, segment)
+asBest Nothing = nothing
 
--- `wrong.iter().filter(..).max_by(..)`
+unfoldable pub asFastest : Best (Float × ℕ × ℕ) → Fastest
+asFastest (found f) = Found (f .0) (f .1) (f .2)
+asFastest nothing = Nothing
+
+abbrev pub atLeast : (new old : Float × ℕ × ℕ) → Bool
+atLeast new old = not (totalLess (new .0) (old .0))
+
+-- `wrong.iter().filter(..).max_by(|a, b| a.0.total_cmp(&b.0))`: of equal rates the last
 unfoldable pub entering : (n : ℕ) (segments : List Segments) (state : List Spot) (fixed refused : List Bool) (gradient pushback : List Float)
     (least : Float) → Fastest
 entering n segments state fixed refused gradient pushback least =
-    fold n (λ i best. fasterOne (getD refused i false) (wrong segments state fixed gradient pushback least i) i best) Nothing
+    asFastest (lastLargest (λ a b. totalLess (a .0) (b .0)) n (offers segments state fixed refused gradient pushback least))
 
 -- `Some(_)`
 unfoldable pub isInto : Descent → Bool

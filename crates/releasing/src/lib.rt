@@ -5,9 +5,11 @@ use segments::State;
 ghost use mathlib.Core.Path.{_≡_};
 ghost use Prim.Native.Nat.{_≤_, _<_};
 ghost use lib.ListN.{length};
+ghost use Rattle.folds.specs.Best.{found, better};
 ghost use Rattle.sizes.specs.Sizes as Sizes;
 ghost use Rattle.segments.specs.Segments.{Cut, Placed, AllCut, AllPlaced, last as lastOf};
 ghost use Rattle.releasing.specs.Release as Rule;
+ghost use Rattle.releasing.specs.Release.{asBest, atLeast};
 
 // The rate at which the objective falls as a held variable moves into a segment next to it, and that segment.
 pub enum Descent {
@@ -89,7 +91,7 @@ pub enum Fastest {
 
 // The larger of two rates, and the last where they are equal.
 fn faster(best: Fastest, i: usize, rate: f64, segment: usize) -> Fastest
-    ensures { λ r. ⌜ r ≡ Rule.faster best i rate segment ⌝ }
+    ensures { λ r. ⌜ asBest r ≡ better atLeast (asBest best) (found (rate, i, segment)) ⌝ }
 {
     let Fastest::Found(largest, _, _) = best else {
         return Fastest::Found(rate, i, segment);
@@ -102,7 +104,7 @@ fn faster(best: Fastest, i: usize, rate: f64, segment: usize) -> Fastest
 
 // Variable i, unless it is refused.
 fn faster_one(refused: bool, wrong: Descent, i: usize, best: Fastest) -> Fastest
-    ensures { λ r. ⌜ r ≡ Rule.fasterOne refused wrong i best ⌝ }
+    ensures { λ r. ⌜ asBest r ≡ better atLeast (asBest best) (Rule.offered refused wrong i) ⌝ }
 {
     if refused {
         return best;

@@ -16,3 +16,7 @@ variables = originals + rows
 
 abbrev pub columns : ℕ
 columns = equalities + rows
+
+-- a problem of at most so many variables and columns is small
+abbrev pub few : ℕ
+few = 8

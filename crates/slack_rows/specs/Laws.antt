@@ -1,20 +1,22 @@
--- Laws of the definitions: which columns are kept, the lengths, and that the free variables, split at `originals`, have the rows that are asked for.
-use mathlib.Core.Path.{_≡_}
+-- Laws of the definitions: which columns are kept, the lengths, the multipliers of fewer columns, and that the free variables, split at
+-- `originals`, have the rows that are asked for.
+use mathlib.Core.Path.{_≡_, ap, _∙_}
 use mathlib.Core.Bool.{Bool}
 use mathlib.Core.List.{List}
-use Prim.Native.Nat.{ℕ, _+_, _-_, _*_, _<_, _≤_}
+use Prim.Native.Nat.{ℕ, zero, suc, _+_, _-_, _*_, _<_, _≤_}
+use native.Mathlib.Nat.{le-refl}
 use native.Mathlib.Omega.{arith}
 use lib.ListN.{length, set, take, drop, length-set, length-drop}
-use lib.Seq.{getD-take, getD-drop, length-take-le}
+use lib.Seq.{getD-take, getD-drop, length-take-le, take-take, take-set-lt}
 use lib.Ieee.{Float}
-use Rattle.folds.specs.Fold.{fold-keep}
+use Rattle.folds.specs.Fold.{fold, fold-keep}
 use Rattle.folds.specs.Tab.{length-tab}
 use Rattle.folds.specs.Chosen.{chosen, length-chosen, chosen-below, chosen-from}
 use Rattle.folds.specs.Position.{partitionPoint, split-within, split-chosen}
 use Rattle.sizes.specs.Sizes as Sizes
 use Rattle.arith.specs.Float.{f0, at}
 use Rattle.vector.specs.Vector.{Below, filled}
-use Rattle.vector.specs.Laws.{length-filled}
+use Rattle.vector.specs.Laws.{length-filled, take-zeros}
 use Rattle.matrix.specs.Matrix.{index}
 use Rattle.slack_rows.specs.SlackRows.{slackColumn, Row, Rows, Solved, keeps, keptColumns, allMultipliers, stepEntry, withSlackSteps}
 
@@ -43,6 +45,20 @@ pub length-withSlackSteps : (e : List Float) (n : ℕ) (solved slacks : List ℕ
 unfolding withSlackSteps
 length-withSlackSteps e n solved slacks step residuals originals first =
     length-tab (length solved + length slacks) (stepEntry e n solved slacks step residuals originals first)
+
+-- ---- the multipliers of k columns start with those of the first m, where none past these is kept
+module _ (m k : ℕ) (kept : List ℕ) (multipliers : List Float) (h : m ≤ k) (below : Below (length kept) kept m) where
+  abbrev write : ℕ → List Float → List Float
+  write t all = set all (index kept t) (at multipliers t)
+
+  taken : (t : ℕ) → t ≤ length kept → take m (fold t write (filled k f0)) ≡ fold t write (filled m f0)
+  unfolding fold
+  taken zero l = rw (← take-zeros k k (le-refl k), take-take) (take-zeros m k h)
+  taken (suc t) l = take-set-lt m _ (index kept t) (at multipliers t) (below t l) ∙ ap (write t) (taken t (omega arith))
+
+  pub allMultipliers-taken : {r : List Float} → r ≡ allMultipliers k kept multipliers → take m r ≡ allMultipliers m kept multipliers
+  unfolding allMultipliers
+  allMultipliers-taken e = rw e (taken (length kept) (le-refl _))
 
 -- ---- a slack below n has its row, where E has `first` columns and one for each slack
 module _ (n m originals first : ℕ) (room : first + (n - originals) ≤ m) where

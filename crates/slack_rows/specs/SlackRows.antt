@@ -17,6 +17,10 @@ use Rattle.matrix.specs.Matrix.{cell, index}
 unfoldable pub slackColumn : (i originals first : ℕ) → ℕ
 slackColumn i originals first = first + i - originals
 
+-- each of the list is a slack
+abbrev pub Slacks : (originals : ℕ) (slacks : List ℕ) → Type 0
+Slacks originals slacks = (t : ℕ) → t < length slacks → (originals ≤ index slacks t) × (index slacks t < Sizes.variables)
+
 -- i is a slack, and its row one of the columns
 pub record Row (n m originals first i : ℕ) : Type 0 where
   pub from : originals ≤ i

@@ -2,12 +2,12 @@
 // the slacks; the row of slack i is E's column first + i - originals.
 ghost use mathlib.Core.Path.{_≡_};
 ghost use Prim.Native.Nat.{_≤_, _<_, _+_, _*_};
-ghost use lib.ListN.{length, take};
+ghost use lib.ListN.{length};
 ghost use Rattle.folds.specs.Fold.{over};
 ghost use Rattle.sizes.specs.Sizes as Sizes;
 ghost use Rattle.vector.specs.Vector.{Below};
 ghost use Rattle.slack_rows.specs.SlackRows as SlackRows;
-ghost use Rattle.slack_rows.specs.SlackRows.{Row, Rows, Solved};
+ghost use Rattle.slack_rows.specs.SlackRows.{Slacks, Row, Rows, Solved};
 
 fn slack_column(i: usize, originals: usize, first: usize) -> usize
     requires { ⌜ (originals ≤ i) × (i < Sizes.variables) × (first ≤ Sizes.columns) ⌝ }
@@ -16,16 +16,9 @@ fn slack_column(i: usize, originals: usize, first: usize) -> usize
     first + i - originals
 }
 
-// Whether column j is the row of one of the slacks; n and m are E's sizes.
-fn any_slack_column(
-    slacks: &[usize],
-    n: usize,
-    m: usize,
-    originals: usize,
-    first: usize,
-    j: usize,
-) -> bool
-    requires { ⌜ Rows n m originals first (now slacks) ⌝ }
+// Whether column j is the row of one of the slacks.
+fn any_slack_column(slacks: &[usize], originals: usize, first: usize, j: usize) -> bool
+    requires { ⌜ Slacks originals (now slacks) × (first ≤ Sizes.columns) ⌝ }
     ensures { λ r. ⌜ r ≡ SlackRows.anySlackColumn (now (slacks .entry)) originals first j ⌝ }
 {
     for t in 0..slacks.len() {
@@ -65,7 +58,7 @@ fn keeps(
     if j < first {
         return true;
     }
-    if any_slack_column(slacks, n, m, originals, first, j) {
+    if any_slack_column(slacks, originals, first, j) {
         return false;
     }
     any_entry(e, n, m, solved, j)
@@ -95,12 +88,10 @@ pub fn kept_columns(
     count
 }
 
-// The multipliers of all m columns: those of the columns kept, and 0 for the others.
-pub fn all_multipliers(multipliers: &[f64], kept: &[usize], m: usize) -> [f64; sizes::COLUMNS]
-    requires { ⌜ (m ≤ Sizes.columns)
-        × (length (now kept) ≤ length (now multipliers))
-        × Below (length (now kept)) (now kept) m ⌝ }
-    ensures { λ r. ⌜ take m r ≡ SlackRows.allMultipliers m (now (kept .entry)) (now (multipliers .entry)) ⌝ }
+// The multipliers of all columns: those of the columns kept, and 0 for the others.
+pub fn all_multipliers(multipliers: &[f64], kept: &[usize]) -> [f64; sizes::COLUMNS]
+    requires { ⌜ (length (now kept) ≤ length (now multipliers)) × Below (length (now kept)) (now kept) Sizes.columns ⌝ }
+    ensures { λ r. ⌜ r ≡ SlackRows.allMultipliers Sizes.columns (now (kept .entry)) (now (multipliers .entry)) ⌝ }
 {
     let mut all = [0.0; sizes::COLUMNS];
     for k in 0..kept.len() {

@@ -6,7 +6,6 @@ ghost use Rattle.sizes.specs.Sizes as Sizes;
 ghost use Rattle.active.specs.Answer.{answer, answerOf};
 ghost use Rattle.quadratic.specs.Quadratic.{quadratic};
 ghost use Rattle.quadratic.specs.Holds.{Holds};
-ghost use Rattle.in_units.specs.Room.{few};
 ghost use Rattle.slack_solve.specs.SlackSolve as Definition;
 ghost use Rattle.slack_solve.specs.Holds.{Restores};
 use active::Answer;
@@ -18,7 +17,7 @@ const ALL_SQUARE: usize = sizes::VARIABLES * sizes::VARIABLES;
 
 const ALL_TALL: usize = sizes::VARIABLES * sizes::COLUMNS;
 
-const SMALL_ALL: usize = (in_units::FEW + in_units::FEW) * (in_units::FEW + in_units::FEW);
+const SMALL_ALL: usize = (sizes::FEW + sizes::FEW) * (sizes::FEW + sizes::FEW);
 
 // Whether x meets the constraints and the rows.
 fn feasible(
@@ -166,8 +165,8 @@ fn solve_scaled(
 {
     let v = n + r;
     let w = m + r;
-    let c_all = slacks::with_zeros(c, n, r);
-    let b_all = slacks::with_zeros(b, m, r);
+    let c_all = slacks::with_zeros(c, n);
+    let b_all = slacks::with_zeros(b, m);
     let uc = dense::div(&c_all[..v], scales, v);
     let ub = dense::div(&b_all[..w], columns, w);
     let segments = slacks::all_segments(
@@ -349,8 +348,8 @@ fn solve_small(
         (now start)
         × (n * n ≤ length (now q))
         × (n * m ≤ length (now e))
-        × (n ≤ few)
-        × (r ≤ few) ⌝ }
+        × (n ≤ Sizes.few)
+        × (r ≤ Sizes.few) ⌝ }
     ensures { λ s. ⌜ answerOf n (m + r) s
         ≡ Definition.solve (quadratic n m r (now (q .entry)) (now (c .entry)) (now (e .entry)) (now (b .entry)) (now (lower .entry))
         (now (upper .entry)) (now (a .entry)) (now («row_lower» .entry)) (now («row_upper» .entry)) (now (at .entry)) (now (slopes .entry))
@@ -463,8 +462,8 @@ pub fn solve_shaped(
         (now (upper .entry)) (now (a .entry)) (now («row_lower» .entry)) (now («row_upper» .entry)) (now (at .entry)) (now (slopes .entry))
         (now (start .entry))) ⌝ }
 {
-    if n <= in_units::FEW {
-        if r <= in_units::FEW {
+    if n <= sizes::FEW {
+        if r <= sizes::FEW {
             return solve_small(
                 q,
                 c,

@@ -8,7 +8,7 @@ use lib.ListN.{length, take, set, replicate}
 use lib.Seq.{getD-set-same, getD-set-other}
 use lib.Ieee.{Float, nan}
 use borrow.Author.Tests.{lt-ltb, le-ltb, eq-eqb, ne-eqb}
-use Rattle.folds.specs.Fold.{fold, fold-same, tab, pick, all-at}
+use Rattle.folds.specs.Fold.{fold, fold-same, tab, over, pick, all-at}
 use Rattle.folds.specs.Tab.{length-tab, length-tabM, getD-tab, tab-same, taken-over, over-tab}
 use Rattle.folds.specs.Decide.{by-order}
 use Rattle.sizes.specs.Sizes as Sizes
@@ -24,7 +24,7 @@ use Rattle.slacks.specs.Slacks.{entryQ, withSlacksQ, entryE, withSlacksE
 use Rattle.slacks.specs.Slacks.{scalesWithSlacks, variableSegments, slackSegments, oneSegments, allSegments, unread, segmentsArray}
 use Rattle.slacks.specs.Slacks.{startWithSlacks, slacksStart}
 use Rattle.slacks.specs.Limits.{meetsRow, meetsRows}
-use Rattle.slacks.specs.Chain.{length-chain, chain-in, chain-past, tab-chain}
+use Rattle.slacks.specs.Chain.{length-chain, chain-in, chain-past, tab-chain, take-zeros}
 
 -- ---- Q with the slacks
 module _ (n r : ℕ) (q : List Float) where
@@ -92,6 +92,11 @@ module _ (n r : ℕ) (v : List Float) where
   pub withZeros-slack : (j : ℕ) → j < r → at (withZeros n r v) (n + j) ≡ f0
   unfolding withZeros
   withZeros-slack j h = chain-past nan n j (copy n v) (filled r f0) (length-copy n v) ∙ filled-at r j h f0
+
+  -- the start of v over an array of zeros
+  pub withZeros-taken : {t : List Float} (k : ℕ) → n + r ≤ k → t ≡ over (copy n v) (replicate k f0) → take (n + r) t ≡ withZeros n r v
+  unfolding withZeros
+  withZeros-taken k h e = take-zeros n r k (copy n v) (length-copy n v) h e
 
 -- ---- the scales
 -- an array of which the first n elements are known

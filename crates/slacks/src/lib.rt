@@ -3,9 +3,11 @@
 use segments::Segments;
 ghost use mathlib.Core.Path.{_≡_};
 ghost use Prim.Native.Nat.{_+_, _≤_, _<_, _*_};
-ghost use lib.ListN.{length, take};
+ghost use lib.ListN.{length, take, replicate};
 ghost use Rattle.folds.specs.Fold.{over};
 ghost use Rattle.sizes.specs.Sizes as Sizes;
+ghost use Rattle.arith.specs.Float.{f0};
+ghost use Rattle.vector.specs.Vector.{copy};
 ghost use Rattle.matrix.specs.Matrix as Matrix;
 ghost use Rattle.segments.specs.Segments.{Cut, AllCut};
 ghost use Rattle.slacks.specs.Slacks as Slacks;
@@ -108,10 +110,10 @@ pub fn with_slacks_e(e: &[f64], a: &[f64], n: usize, m: usize, r: usize, all: &m
     }
 }
 
-// v's n entries, then r zeros: c and b with the slacks.
-pub fn with_zeros(v: &[f64], n: usize, r: usize) -> [f64; sizes::VARIABLES]
-    requires { ⌜ (n ≤ Sizes.originals) × (r ≤ Sizes.rows) × (n ≤ length (now v)) ⌝ }
-    ensures { λ x. ⌜ take (n + r) x ≡ Slacks.withZeros n r (now (v .entry)) ⌝ }
+// v's n entries, then zeros: c and b with the slacks.
+pub fn with_zeros(v: &[f64], n: usize) -> [f64; sizes::VARIABLES]
+    requires { ⌜ (n ≤ Sizes.variables) × (n ≤ length (now v)) ⌝ }
+    ensures { λ x. ⌜ x ≡ over (copy n (now (v .entry))) (replicate Sizes.variables f0) ⌝ }
 {
     let mut all = [0.0; sizes::VARIABLES];
     vector::copy(v, n, &mut all);
@@ -219,10 +221,16 @@ fn one_segments(
     row_upper: &[f64],
     scales: &[f64],
     n: usize,
-    r: usize,
     i: usize,
 ) -> Segments
-    requires { ⌜ Slacks.RangesFit n r (now lower) (now upper) (now at) (now slopes) (now «row_lower») (now «row_upper») (now scales) × (i < n + r) ⌝ }
+    requires { ⌜ (n ≤ Sizes.originals)
+        × (n ≤ length (now lower))
+        × (n ≤ length (now upper))
+        × (n ≤ length (now at))
+        × (n ≤ length (now slopes))
+        × (i < n + length (now «row_lower»))
+        × (i < n + length (now «row_upper»))
+        × (i < length (now scales)) ⌝ }
     ensures { λ s. ⌜ s
         ≡ Slacks.oneSegments n (now (lower .entry)) (now (upper .entry)) (now (at .entry)) (now (slopes .entry))
         (now («row_lower» .entry)) (now («row_upper» .entry)) (now (scales .entry)) i ⌝ }
@@ -259,18 +267,7 @@ pub fn all_segments(
     }; sizes::VARIABLES];
     let variables = n + r;
     for i in 0..variables {
-        all[i] = one_segments(
-            lower,
-            upper,
-            at,
-            slopes,
-            row_lower,
-            row_upper,
-            scales,
-            n,
-            r,
-            i,
-        );
+        all[i] = one_segments(lower, upper, at, slopes, row_lower, row_upper, scales, n, i);
     }
     all
 }

@@ -1,19 +1,26 @@
-use Rattle.folds.specs.Kit.{_∙_, needs}
+use Rattle.folds.specs.Kit.{_≡_, _∙_, length, needs}
+use Rattle.sizes.specs.Sizes as Sizes
 use Rattle.advance.specs.Advance.{blocked}
-use Rattle.advance.specs.Laws.{board-kept}
+use Rattle.advance.specs.Laws.{length-mapped, board-kept, stopped-placed}
 use Rattle.iterate.specs.Laws.{passed-more}
 use Rattle.advance.proofs.blocked.Statement.{statement}
 use Rattle.advance.proofs.blocked.Tie as tie
+
+states : (c : tie.Start) → length (c .args .iterate .board .state) ≡ Sizes.variables
+states c = search (needs, length-mapped)
 
 returns : tie.Need-returns
 unfolding blocked
 returns c =
     let b = c .before .before in
     let s = b .before .before .before .before .before .before .before in
+    let a = s .args in
     let e = c .ended .ensures in
     let i = e .1 ∙ c .before .with-board .ensures in (
-      λ m. passed-more (s .args .n) m (c .ended .result) (e .0) ∙ rw (i, b .stopped .ensures .0),
-      rw i (board-kept (s .args .n) (s .args .segments) (s .args .iterate) _ _ (b .stopped .ensures .1)),
+      λ n m. passed-more n m (c .ended .result) (e .0) ∙ rw (i, b .stopped .ensures),
+      λ n below placed. rw (i, b .stopped .ensures)
+          (board-kept n (a .segments) (a .iterate) _ _
+          (stopped-placed n (a .segments) _ _ _ _ _ _ _ _ _ (a .iterate .board) (states s) (s .pre .0) (s .pre .2) (below _ (s .pre .2)) placed)),
     )
 
 pub blocked-spec : {M : Type 1} → statement M

@@ -14,10 +14,10 @@ first c = c .before .before .before .before .before .before .before .before .bef
 abbrev start : tie.After-pushback2 → tie.Start
 start c = first (c .before .before .before .before .before)
 
-x-holds : (c : tie.Start) → c .args .n ≤ length (c .args .board .x)
+x-holds : (c : tie.Start) → c .args .counts .n ≤ length (c .args .board .x)
 x-holds c = let e : length (c .args .board .x) ≡ Sizes.variables = search needs in omega arith
 
-refused-holds : (c : tie.Start) → c .args .n ≤ length (c .args .board .refused)
+refused-holds : (c : tie.Start) → c .args .counts .n ≤ length (c .args .board .refused)
 refused-holds c = let e : length (c .args .board .refused) ≡ Sizes.variables = search needs in omega arith
 
 slice-aggregate-gradient-at : tie.Need-slice-aggregate-gradient-at

@@ -11,4 +11,4 @@ scale-spec =
     (λ c κs. search kit)  -- amax-requires
     (λ c κs. search kit)  -- amax-requires-2
     (λ c κs. search kit)  -- max-requires
-    (λ c. rw (c .max .ensures, c .before .amax2 .ensures, c .before .before .amax .ensures)))  -- returns
+    (λ c. rw (c .max .ensures, c .before .amax2 .ensures, c .before .before .before .before .amax .ensures)))  -- returns

@@ -1,7 +1,6 @@
 use Rattle.folds.specs.Kit.{_≡_, sym, arith, length, both, needs}
 use lib.Seq.{length-take-le}
 use Rattle.sizes.specs.Sizes as Sizes
-use Rattle.factor.specs.Laws.{listed-below}
 use Rattle.factoring.specs.Kept.{containsSingular}
 use Rattle.factoring.proofs.contains_singular.Statement.{statement}
 use Rattle.factoring.proofs.contains_singular.Tie as tie
@@ -9,18 +8,14 @@ use Rattle.factoring.proofs.contains_singular.Tie as tie
 list-length : (c : tie.Start) → length (c .args .singular .list) ≡ Sizes.originals
 list-length c = search needs
 
-contains-all-requires : tie.Need-contains-all-requires
-contains-all-requires c κs =
-    let p = c .before .before .before .before .pre in (listed-below _ _ (p .1) _ (p .0), listed-below _ _ (p .2 .rises) _ (p .0))
-
 pub contains-singular-spec : {M : Type 1} → statement M
 unfolding containsSingular both
 contains-singular-spec =
     tie.close
     (tie.spec
-    (λ c. let s = c .before .before .before in omega (arith, s .pre .2 .fits, list-length s))  -- array-share-prefix-list
+    (λ c. let s = c .before .before .before in omega (arith, s .pre .1 .fits, list-length s))  -- array-share-prefix-list
     (λ c. let s = c .before .before .before .before in
-    sym (length-take-le _ _ (omega (arith, s .pre .2 .fits, list-length s))))  -- slice-aggregate-contains-all
-    contains-all-requires  -- contains-all-requires
+    sym (length-take-le _ _ (omega (arith, s .pre .1 .fits, list-length s))))  -- slice-aggregate-contains-all
+    (λ c κs. let p = c .before .before .before .before .pre in (p .0, p .1 .below))  -- contains-all-requires
     (λ c. rw (c .before .before .before .if1 .taken) (c .contains-all .ensures))  -- returns
     (λ c. rw (c .if1 .left)))  -- returns-2

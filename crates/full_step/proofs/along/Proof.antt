@@ -4,7 +4,7 @@ use Rattle.folds.specs.Tab.{taken-over}
 use lib.Seq.{length-take-le}
 use Rattle.sizes.specs.Sizes as Sizes
 use Rattle.vector.specs.Laws.{length-select}
-use Rattle.free_list.specs.Laws.{listed-below}
+use Rattle.free_list.specs.Laws.{listed-below, listed}
 use Rattle.full_step.specs.FullStep.{along}
 use Rattle.full_step.specs.Laws.{listed-few, listed-entries}
 use Rattle.full_step.proofs.along.Statement.{statement}
@@ -42,10 +42,7 @@ ray-step-requires c κs =
     let s = start (c .before .before .before) in
     let a = s .args in
     let p = s .pre in (
-      p .0,
-      p .1,
-      p .2,
-      p .3,
+      listed (a .n) (a .iterate .board .state) (p .3) (a .segments) (p .0) (p .1) (p .2),
       listed-entries (a .n) (a .iterate .board .state) (p .3) (a .segments) _ _ (p .5) (omega (arith, slice-aggregate-ray-step c)) (p .4),
     )
 
@@ -53,9 +50,11 @@ returns : tie.Need-returns
 unfolding along
 returns c =
     let x = c .before .before .before in
-    let p = start (x .before) .pre in (
-      λ m. rw (← p .5 .lower-is, ← p .5 .upper-is, ← p .3, ← taken-over _ _ (length-select _ _ _) (x .select .ensures)) (c .ray-step .ensures .0 m),
-      c .ray-step .ensures .1,
+    let s = start (x .before) in
+    let a = s .args in
+    let p = s .pre in (
+      λ m. rw (← p .5 .lower-is, ← p .5 .upper-is, ← p .3, ← taken-over _ _ (length-select _ _ _) (x .select .ensures)) (c .ray-step .ensures .0 (a .n) m),
+      c .ray-step .ensures .1 (a .n) (listed-below (a .n) (a .iterate .board .state) (p .3)) (p .2),
     )
 
 pub along-spec : {M : Type 1} → statement M

@@ -6,16 +6,15 @@ use Rattle.full_step.proofs.ray_step.Statement.{statement}
 use Rattle.full_step.proofs.ray_step.Tie as tie
 
 ratio-test-requires : tie.Need-ratio-test-requires
-ratio-test-requires c κs = c .before .before .before .before .before .pre .4
+ratio-test-requires c κs = c .before .before .before .before .before .pre .1
 
 returns : tie.Need-returns
 unfolding rayStep atRatio
 returns c =
     let r = c .before .before .before in
-    let s = r .before .before .before .before .before .before in
     let e = c .ended .ensures in (
-      λ m. passed-unbounded (s .args .n) m (c .ended .result) (e .0) ∙ rw (← r .ratio-test .ensures, c .before .enum-told .given .1),
-      rw (e .1) (record { placed = s .pre .2 }),
+      λ n m. passed-unbounded n m (c .ended .result) (e .0) ∙ rw (← r .ratio-test .ensures, c .before .enum-told .given .1),
+      λ n below placed. rw (e .1) (record { placed = placed }),
     )
 
 blocked-requires : tie.Need-blocked-requires
@@ -27,9 +26,6 @@ blocked-requires c κs =
     let v = c .before .hit .given in (
       p .0,
       p .1,
-      p .2,
-      p .3,
-      p .4,
       ratio-below (length (a .indices .now)) (a .x-free .now) (a .direction .now) (a .lower .now) (a .upper .now) (v .0 .0) (v .0 .1 .0)
           (v .0 .1 .1 .0) (sym (v .1) ∙ r .ratio-test .ensures),
     )
@@ -38,7 +34,7 @@ returns-2 : tie.Need-returns-2
 unfolding rayStep atRatio
 returns-2 c =
     let h = c .before .before in (
-      λ m. rw (← h .before .before .ratio-test .ensures, h .hit .given .1) (c .blocked .ensures .0 m),
+      λ n m. rw (← h .before .before .ratio-test .ensures, h .hit .given .1) (c .blocked .ensures .0 n m),
       c .blocked .ensures .1,
     )
 

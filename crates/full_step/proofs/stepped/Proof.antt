@@ -5,7 +5,7 @@ use lib.Seq.{length-take-le}
 use Rattle.sizes.specs.Sizes as Sizes
 use Rattle.vector.specs.Laws.{length-sub}
 use Rattle.segments.specs.Segments.{AllPlaced}
-use Rattle.free_list.specs.Laws.{listed-below}
+use Rattle.free_list.specs.Laws.{listed-below, listed}
 use Rattle.blocking.specs.Laws.{blocking-below}
 use Rattle.blocking.specs.declared.Board.{Board}
 use Rattle.advance.specs.Laws.{settled-placed}
@@ -17,11 +17,11 @@ use Rattle.full_step.proofs.stepped.Tie as tie
 abbrev start : tie.After-blocking → tie.Start
 start c = c .before .before .before .before .before .before .before .before .before .before .before .before .before .before
 
-x-holds : (c : tie.Start) → c .args .n ≤ length (c .args .iterate .board .x)
+x-holds : (c : tie.Start) → c .args .counts .n ≤ length (c .args .iterate .board .x)
 x-holds c = let e : length (c .args .iterate .board .x) ≡ Sizes.variables = search needs in omega arith
 
 few : (c : tie.Start) → length (c .args .indices .now) ≤ Sizes.variables
-few c = omega (arith, listed-few (c .args .n) (c .args .iterate .board .state) (c .pre .4), c .pre .0 .variables)
+few c = omega (arith, listed-few (c .args .counts .n) (c .args .iterate .board .state) (c .pre .4), c .pre .0 .variables)
 
 slice-aggregate-step-tolerance : tie.Need-slice-aggregate-step-tolerance
 slice-aggregate-step-tolerance c =
@@ -39,7 +39,7 @@ settled-requires : tie.Need-settled-requires
 settled-requires c κs =
     let s = start (c .before .before) in
     let p = s .pre in (
-      λ i h. omega (arith, listed-below (s .args .n) (s .args .iterate .board .state) (p .4) i h, p .0 .variables),
+      λ i h. omega (arith, listed-below (s .args .counts .n) (s .args .iterate .board .state) (p .4) i h, p .0 .variables),
       p .5 .d-holds,
       p .5 .lower-holds,
       p .5 .upper-holds,
@@ -52,8 +52,8 @@ decided-requires c κs =
     let p = s .pre in (
       p .0,
       p .1,
-      subst (λ (b : Board). AllPlaced (a .n) (a .segments) (b .state)) (sym (c .settled .ensures))
-          (settled-placed (a .n) (a .segments) _ _ _ _ _ (a .iterate .board) (p .2 .placed)),
+      subst (λ (b : Board). AllPlaced (a .counts .n) (a .segments) (b .state)) (sym (c .settled .ensures))
+          (settled-placed (a .counts .n) (a .segments) _ _ _ _ _ (a .iterate .board) (p .2 .placed)),
       p .2,
       p .3,
     )
@@ -87,10 +87,7 @@ blocked-requires c κs =
     let a = s .args in
     let p = s .pre in
     let v = h .hit .given in (
-      p .0 .variables,
-      p .1,
-      p .2 .placed,
-      p .4,
+      listed (a .counts .n) (a .iterate .board .state) (p .4) (a .segments) (p .0 .variables) (p .1) (p .2 .placed),
       record {
         x-holds = p .5 .x-holds;
         d-holds = omega (arith, slice-aggregate-blocked c);
@@ -107,15 +104,17 @@ returns-2 c =
     let d = c .before .before .before in
     let h = d .before .before .before in
     let b = h .before .before in
-    let s = start b in (
+    let s = start b in
+    let a = s .args in
+    let p = s .pre in (
       rw (
         ← b .before .step-tolerance .ensures,
         ← b .blocking .ensures,
         h .hit .given .1,
         ← taken-over _ _ (length-sub _ _ _) (d .sub .ensures),
       )
-          (c .blocked .ensures .0 (s .args .m)),
-      c .blocked .ensures .1,
+          (c .blocked .ensures .0 (a .counts .n) (a .counts .m)),
+      c .blocked .ensures .1 (a .counts .n) (listed-below (a .counts .n) (a .iterate .board .state) (p .4)) (p .2 .placed),
     )
 
 pub stepped-spec : {M : Type 1} → statement M

@@ -16,11 +16,11 @@ start c = c .before .before .before .before .before .before .before .before .bef
 abbrev selected : tie.After-target2 → tie.After-select
 selected c = c .before .before .before .before .before
 
-x-holds : (c : tie.Start) → c .args .n ≤ length (c .args .iterate .board .x)
+x-holds : (c : tie.Start) → c .args .counts .n ≤ length (c .args .iterate .board .x)
 x-holds c = let e : length (c .args .iterate .board .x) ≡ Sizes.variables = search needs in omega arith
 
 few : (c : tie.Start) → length (c .args .indices .now) ≤ Sizes.variables
-few c = omega (arith, listed-few (c .args .n) (c .args .iterate .board .state) (c .pre .4), c .pre .0 .variables)
+few c = omega (arith, listed-few (c .args .counts .n) (c .args .iterate .board .state) (c .pre .4), c .pre .0 .variables)
 
 slice-aggregate-select : tie.Need-slice-aggregate-select
 slice-aggregate-select c =
@@ -32,7 +32,7 @@ select-requires c κs =
       omega (arith, slice-aggregate-select (c .before)),
       le-refl _,
       omega (arith, few s),
-      listed-below (s .args .n) (s .args .iterate .board .state) (s .pre .4),
+      listed-below (s .args .counts .n) (s .args .iterate .board .state) (s .pre .4),
     )
 
 x-free-holds : tie.Need-array-share-prefix-x-free
@@ -65,7 +65,7 @@ stepped-requires c κs =
       p .2,
       p .3,
       p .4,
-      listed-entries (a .n) (a .iterate .board .state) (p .4) (a .segments) _ _ (p .7) (omega (arith, slice-aggregate-stepped (c .before)))
+      listed-entries (a .counts .n) (a .iterate .board .state) (p .4) (a .segments) _ _ (p .7) (omega (arith, slice-aggregate-stepped (c .before)))
           (omega (arith, slice-aggregate-stepped-2 c)),
       omega (arith, p .5, slice-aggregate-stepped-2 c),
     )
@@ -76,14 +76,13 @@ returns c =
     let t = c .before .before .before in
     let x = selected t in
     let p = start (x .before) .pre in (
-      λ b.
-          rw (
-            ← p .7 .lower-is,
-            ← p .7 .upper-is,
-            ← p .4,
-            ← taken-over _ _ (length-select _ _ _) (x .select .ensures),
-            ← taken-over _ _ (length-add _ _ _) (t .before .add .ensures),
-          )
+      rw (
+        ← p .7 .lower-is,
+        ← p .7 .upper-is,
+        ← p .4,
+        ← taken-over _ _ (length-select _ _ _) (x .select .ensures),
+        ← taken-over _ _ (length-add _ _ _) (t .before .add .ensures),
+      )
           (c .stepped .ensures .0),
       c .stepped .ensures .1,
     )

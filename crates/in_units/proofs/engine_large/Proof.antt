@@ -7,10 +7,8 @@ use Rattle.in_units.specs.Room.{room-of}
 use Rattle.in_units.proofs.engine_large.Statement.{statement}
 use Rattle.in_units.proofs.engine_large.Tie as tie
 
-abbrev start : tie.After-vectors → tie.Start
-start c =
-    let s = c .before .before .before .before .before .before .before .before .before in
-    s .before .before .before .before .before .before .before .before .before
+abbrev start : tie.After-gram → tie.Start
+start c = c .before .before .before .before .before .before .before .before .before
 
 -- the factor of all originals fits
 square-fits : (c : tie.Start) → c .args .n * c .args .n ≤ Sizes.originals * Sizes.originals
@@ -23,9 +21,8 @@ solve-piecewise-in-units-requires c κs =
       p .0,
       p .1,
       p .2,
-      room-of {x = Sizes.originals} {y = Sizes.variables} {z = Sizes.columns} _ _ _ _ (p .0 .few)
-          (p .0 .variables) (omega arith) (omega arith) (omega arith)
-          (omega arith) (omega arith) (omega arith),
+      room-of {x = Sizes.originals} {y = Sizes.variables} {z = Sizes.columns} _ _ _ _ (p .0 .few) (p .0 .variables) (omega arith) (omega arith) (omega arith) (omega arith)
+          (omega arith) (omega arith),
       take-zeros _ _ (square-fits s),
     )
 
@@ -34,23 +31,13 @@ engine-large-spec =
     tie.close
     (tie.spec
     (λ c. omega (arith, square-fits (c .before .before .before .before .before)))  -- mul-square
-    (λ c. search needs)  -- add-solve-piecewise-in-units
-    (λ c. search needs)  -- add-solve-piecewise-in-units-2
+    (λ c. search needs)  -- add-t17
+    (λ c. search needs)  -- add-t18
     (λ c. search needs)  -- slice-aggregate-solve-piecewise-in-units
     (λ c. search needs)  -- slice-aggregate-solve-piecewise-in-units-2
     (λ c. search needs)  -- slice-aggregate-solve-piecewise-in-units-3
     (λ c. search needs)  -- slice-aggregate-solve-piecewise-in-units-4
-    (λ c. search needs)  -- slice-aggregate-solve-piecewise-in-units-5
-    (λ c. search needs)  -- slice-aggregate-solve-piecewise-in-units-6
-    (λ c. search needs)  -- slice-aggregate-solve-piecewise-in-units-7
-    (λ c. search needs)  -- slice-aggregate-solve-piecewise-in-units-8
-    (λ c. search needs)  -- slice-aggregate-solve-piecewise-in-units-9
-    (λ c. search needs)  -- slice-aggregate-solve-piecewise-in-units-10
-    (λ c. search needs)  -- slice-aggregate-solve-piecewise-in-units-11
-    (λ c. search needs)  -- slice-aggregate-solve-piecewise-in-units-12
-    (λ c. search needs)  -- slice-aggregate-solve-piecewise-in-units-13
     (λ c. omega (arith, square-fits (start c)))  -- array-borrow-prefix-l
-    (λ c. sym (length-take-le _ _ (omega (arith, square-fits (start (c .before))))))  -- slice-aggregate-solve-piecewise-in-units-14
+    (λ c. sym (length-take-le _ _ (omega (arith, square-fits (start (c .before))))))  -- slice-aggregate-solve-piecewise-in-units-5
     solve-piecewise-in-units-requires
-    (λ c. let s = c .before .before .before .before .before .before .before in
-    s .before .before .before .before .before .before .before .solve-piecewise-in-units .ensures))  -- returns
+    (λ c. c .before .before .before .before .before .solve-piecewise-in-units .ensures))  -- returns

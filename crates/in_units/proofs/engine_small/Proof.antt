@@ -3,17 +3,15 @@ use Rattle.folds.specs.Cell.{area}
 use lib.Seq.{length-take-le}
 use Rattle.sizes.specs.Sizes as Sizes
 use Rattle.vector.specs.Laws.{take-zeros}
-use Rattle.in_units.specs.Room.{few, room-of}
+use Rattle.in_units.specs.Room.{room-of}
 use Rattle.in_units.proofs.engine_small.Statement.{statement}
 use Rattle.in_units.proofs.engine_small.Tie as tie
 
-abbrev start : tie.After-vectors → tie.Start
-start c =
-    let s = c .before .before .before .before .before .before .before .before .before in
-    s .before .before .before .before .before .before .before .before .before
+abbrev start : tie.After-gram → tie.Start
+start c = c .before .before .before .before .before .before .before .before .before
 
 -- the factor of all originals fits
-square-fits : (c : tie.Start) → c .args .n * c .args .n ≤ few * few
+square-fits : (c : tie.Start) → c .args .n * c .args .n ≤ Sizes.few * Sizes.few
 square-fits c = let p = c .pre in area (p .5) (p .5)
 
 solve-piecewise-in-units-requires : tie.Need-solve-piecewise-in-units-requires
@@ -23,8 +21,8 @@ solve-piecewise-in-units-requires c κs =
       p .0,
       p .1,
       p .2,
-      room-of {x = few} {y = few + few} {z = Sizes.equalities + few} _ _ _ _ (p .5) (omega arith) (omega arith) (omega arith) (omega arith)
-          (omega arith) (omega arith) (omega arith),
+      room-of {x = Sizes.few} {y = Sizes.few + Sizes.few} {z = Sizes.equalities + Sizes.few} _ _ _ _ (p .5) (omega arith) (omega arith) (omega arith) (omega arith) (omega arith)
+          (omega arith) (omega arith),
       take-zeros _ _ (square-fits s),
     )
 
@@ -33,23 +31,13 @@ engine-small-spec =
     tie.close
     (tie.spec
     (λ c. omega (arith, square-fits (c .before .before .before .before .before)))  -- mul-square
-    (λ c. search needs)  -- add-solve-piecewise-in-units
-    (λ c. search needs)  -- add-solve-piecewise-in-units-2
+    (λ c. search needs)  -- add-t17
+    (λ c. search needs)  -- add-t18
     (λ c. search needs)  -- slice-aggregate-solve-piecewise-in-units
     (λ c. search needs)  -- slice-aggregate-solve-piecewise-in-units-2
     (λ c. search needs)  -- slice-aggregate-solve-piecewise-in-units-3
     (λ c. search needs)  -- slice-aggregate-solve-piecewise-in-units-4
-    (λ c. search needs)  -- slice-aggregate-solve-piecewise-in-units-5
-    (λ c. search needs)  -- slice-aggregate-solve-piecewise-in-units-6
-    (λ c. search needs)  -- slice-aggregate-solve-piecewise-in-units-7
-    (λ c. search needs)  -- slice-aggregate-solve-piecewise-in-units-8
-    (λ c. search needs)  -- slice-aggregate-solve-piecewise-in-units-9
-    (λ c. search needs)  -- slice-aggregate-solve-piecewise-in-units-10
-    (λ c. search needs)  -- slice-aggregate-solve-piecewise-in-units-11
-    (λ c. search needs)  -- slice-aggregate-solve-piecewise-in-units-12
-    (λ c. search needs)  -- slice-aggregate-solve-piecewise-in-units-13
     (λ c. omega (arith, square-fits (start c)))  -- array-borrow-prefix-l
-    (λ c. sym (length-take-le _ _ (omega (arith, square-fits (start (c .before))))))  -- slice-aggregate-solve-piecewise-in-units-14
+    (λ c. sym (length-take-le _ _ (omega (arith, square-fits (start (c .before))))))  -- slice-aggregate-solve-piecewise-in-units-5
     solve-piecewise-in-units-requires
-    (λ c. let s = c .before .before .before .before .before .before .before in
-    s .before .before .before .before .before .before .before .solve-piecewise-in-units .ensures))  -- returns
+    (λ c. c .before .before .before .before .before .solve-piecewise-in-units .ensures))  -- returns

@@ -9,32 +9,18 @@ use Rattle.in_units.specs.Laws.{started-kept, units-from}
 use Rattle.in_units.proofs.solve_piecewise_in_units.Statement.{statement}
 use Rattle.in_units.proofs.solve_piecewise_in_units.Tie as tie
 
--- the work memory that the passes give back, the passes, the calls before them, and the function's start
-abbrev qq-back : tie.After-slice-known28 → tie.After-slice-known24
-qq-back c = c .before .before .before .before .before .before .before .before
+-- the passes, the calls before them, and the function's start
+abbrev gave : tie.After-slice-known10 → tie.After-passes
+gave c = c .before .before .before .before .before .before .before .before .before .before
 
-abbrev left-back : tie.After-slice-known28 → tie.After-slice-known21
-left-back c = qq-back c .before .before .before .before .before .before
-
-abbrev gram-back : tie.After-slice-known28 → tie.After-slice-known18
-gram-back c = left-back c .before .before .before .before .before .before
-
-abbrev room-back : tie.After-slice-known28 → tie.After-slice-known15
-room-back c = gram-back c .before .before .before .before .before .before
-
-abbrev gave : tie.After-slice-known28 → tie.After-passes
-gave c = room-back c .before .before
-
-abbrev setup : tie.After-passes-arg14 → tie.After-fixed
-setup c = c .before .before .before .before .before .before .before .before .before .before .before .before .before .before
+abbrev setup : tie.After-passes-arg5 → tie.After-fixed
+setup c = c .before .before .before .before .before
 
 abbrev first : tie.After-started → tie.After-all-fixed
 first c = c .before .before .before .before .before
 
-abbrev known : tie.After-slice-known14 → tie.Start
-known c =
-    let shared = c .before .before .before .before .before .before .before .before .before .before .before .before .before .before in
-    shared .before .before .before .before .before
+abbrev known : tie.After-slice-known5 → tie.Start
+known c = c .before .before .before .before .before .before .before .before .before .before
 
 abbrev start : tie.After-all-fixed → tie.Start
 start c = known (c .before)
@@ -76,18 +62,9 @@ solve-piecewise-in-units-spec =
     (λ c. let v = start (first c) .pre .0 .variables in omega arith)  -- array-share-prefix-fixed
     slice-aggregate-passes
     passes-requires
-    (λ c. room-back c .before .room .given)
-    (λ c. gram-back c .before .before .before .before .before .q-free .given)
-    (λ c. gram-back c .before .before .before .e-free .given)
-    (λ c. gram-back c .before .gram .given)
-    (λ c. left-back c .before .before .before .before .before .ks .given)
-    (λ c. left-back c .before .before .before .es .given)
-    (λ c. left-back c .before .left .given)
-    (λ c. qq-back c .before .before .before .before .before .coefficients .given)
-    (λ c. qq-back c .before .before .before .range .given)
-    (λ c. qq-back c .before .qq .given)
-    (λ c. c .before .before .before .before .before .before .before .null .given)
-    (λ c. c .before .before .before .before .before .h .given)
-    (λ c. c .before .before .before .vectors .given)
-    (λ c. c .before .l .given)
+    (λ c. search needs)  -- same-length
+    (λ c. search needs)  -- same-length-2
+    (λ c. search needs)  -- same-length-3
+    (λ c. search needs)  -- same-length-4
+    (λ c. search needs)  -- same-length-5
     returns)

@@ -33,7 +33,8 @@ use denote.Triple.Table.{entered, cited}
 use Rattle.factoring.specs.declared.Factoring.{Factoring}
 use Rattle.factoring.proofs.Factoring as T
 use Rattle.factoring.proofs.Factoring.Laws as T′
-use Rattle.kept_factor.proofs.Lent.{Row, mach, Walked, ends, met, typed, answers, lends-record, record-back, left-held}
+use Rattle.walks.specs.Walks.{Walked, ends, met, answers}
+use Rattle.kept_factor.proofs.Lent.{Row, mach, typed, lends-record, record-back, left-held}
 use Rattle.kept_factor.proofs.reset as callee
 use Rattle.kept_factor.proofs.reset.Symbol as callee-def
 use Rattle.kept_factor.proofs.reset.Symbol.{name as #callee}

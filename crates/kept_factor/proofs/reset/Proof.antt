@@ -34,7 +34,8 @@ use Rattle.factoring.proofs.Factoring.reset as callee
 use Rattle.factoring.proofs.Factoring.reset.Symbol as callee-def
 use Rattle.factoring.proofs.Factoring.reset.Symbol.{name as #callee}
 use Rattle.factoring.proofs.Factoring.reset.Met as callee-thm
-use Rattle.kept_factor.proofs.Lent.{Row, mach, Walked, ends, met, typed, apart, opens-record, asks, answers, left-lent}
+use Rattle.walks.specs.Walks.{Walked, ends, met, answers}
+use Rattle.kept_factor.proofs.Lent.{Row, mach, typed, apart, opens-record, asks, left-lent}
 use Rattle.kept_factor.proofs.reset.Key.{name as #reset}
 use Rattle.kept_factor.proofs.reset as this
 use Rattle.kept_factor.proofs.reset.Statement as stated

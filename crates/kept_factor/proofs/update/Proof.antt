@@ -36,7 +36,8 @@ use Rattle.factoring.proofs.Factoring.update.Symbol as callee-def
 use Rattle.factoring.proofs.Factoring.update.Symbol.{name as #callee}
 use Rattle.factoring.proofs.Factoring.update.Met as callee-thm
 use Rattle.kept_factor.proofs.Lent.{others-spelled, others-tell}
-use Rattle.kept_factor.proofs.Lent.{Row, mach, Walked, ends, met, typed, apart, opens-record, asks, answers, left-lent}
+use Rattle.walks.specs.Walks.{Walked, ends, met, answers}
+use Rattle.kept_factor.proofs.Lent.{Row, mach, typed, apart, opens-record, asks, left-lent}
 use Rattle.kept_factor.proofs.update.Key.{name as #update}
 use Rattle.kept_factor.proofs.update as this
 use Rattle.kept_factor.proofs.update.Statement as stated

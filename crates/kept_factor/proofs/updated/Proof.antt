@@ -36,7 +36,8 @@ use Rattle.factoring.specs.declared.Factoring.{Factoring}
 use Rattle.factoring.proofs.Factoring as T
 use Rattle.factoring.proofs.Factoring.Laws as T′
 use Rattle.kept_factor.proofs.Lent.{others-spelled, others-tell}
-use Rattle.kept_factor.proofs.Lent.{mach, Walked, ends, met, typed, answers, lends-record, record-back, left-held}
+use Rattle.walks.specs.Walks.{Walked, ends, met, answers}
+use Rattle.kept_factor.proofs.Lent.{mach, typed, lends-record, record-back, left-held}
 use Rattle.kept_factor.proofs.update as callee
 use Rattle.kept_factor.proofs.update.Symbol as callee-def
 use Rattle.kept_factor.proofs.update.Symbol.{name as #callee}

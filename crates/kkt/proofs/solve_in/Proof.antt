@@ -9,18 +9,22 @@ use Rattle.kkt.proofs.solve_in.Statement.{statement}
 use Rattle.kkt.proofs.solve_in.Tie as tie
 
 abbrev start : tie.After-column-scales → tie.Start
-start c = c .before .before .before .before .before .before .before .before .before .before .before .before .before .before .before .before .before
+start c = c .before .before .before .before .before .before .before .before
 
 abbrev columns-at : tie.After-div2 → tie.After-column-scales
 columns-at c = c .before .before .before .before .before .before .before .before .before .before .before .before .before .before .before
 
+abbrev units-k-at : tie.After-div2 → tie.After-units-k
+units-k-at c = c .before .before .before .before .before .before .before .before .before .before .before .before
+
+abbrev units-e-at : tie.After-div2 → tie.After-units-e
+units-e-at c = c .before .before .before .before .before .before
+
 abbrev div-at : tie.After-solve-noisy-kkt → tie.After-div2
-div-at c = c .before .before .before .before .before .before .before .before .before .before .before .before .before .before
+div-at c = c .before .before .before .before .before
 
 abbrev solved-at : tie.After-multipliers → tie.After-solve-noisy-kkt
-solved-at c =
-    let s = c .before .before .before .before .before .before .before .before .before .before in
-    s .before .before .before .before .before .before .before .before .before .before
+solved-at c = c .before .before
 
 scales-hold : (c : tie.After-column-scales) → start c .args .n ≤ length (c .before .diagonal-scales .result)
 scales-hold c = omega (arith, start c .pre .0 .few)
@@ -99,21 +103,15 @@ slice-aggregate-solve-noisy-kkt-4 c = sym (length-take-le _ _ (array-share-prefi
 
 solve-noisy-kkt-requires : tie.Need-solve-noisy-kkt-requires
 solve-noisy-kkt-requires c κs =
-    let a = c .before .before .before .before .before .before .before .before .before in
-    let p = start (columns-at (a .before .before .before .before)) .pre in (
-      record {
-        few = p .0 .few;
-        columns = p .0 .columns;
-        k-holds = omega (arith, slice-aggregate-solve-noisy-kkt (a .before .before .before));
-        c-holds = omega (arith, slice-aggregate-solve-noisy-kkt-2 (a .before .before));
-        e-holds = omega (arith, slice-aggregate-solve-noisy-kkt-3 (a .before));
-        b-holds = omega (arith, slice-aggregate-solve-noisy-kkt-4 a);
-      },
-      p .3,
-      p .4,
-      p .5,
-      p .6,
-    )
+    let p = start (columns-at (c .before .before .before .before)) .pre .0 in
+    record {
+      few = p .few;
+      columns = p .columns;
+      k-holds = omega (arith, slice-aggregate-solve-noisy-kkt (c .before .before .before));
+      c-holds = omega (arith, slice-aggregate-solve-noisy-kkt-2 (c .before .before));
+      e-holds = omega (arith, slice-aggregate-solve-noisy-kkt-3 (c .before));
+      b-holds = omega (arith, slice-aggregate-solve-noisy-kkt-4 c);
+    }
 
 array-share-prefix-scales-4 : tie.Need-array-share-prefix-scales-4
 array-share-prefix-scales-4 c = scales-hold (columns-at (div-at (solved-at c)))
@@ -136,10 +134,9 @@ returns : tie.Need-returns
 returns c =
     let s = solved-at (c .before .before .before) in
     let d = div-at s in
-    let k = d .before .before .before .before .before .before .before .before .before .before .before .before in
     units-from _ _ _ _ _ _ (columns-at d .before .diagonal-scales .ensures) (columns-at d .column-scales .ensures)
-    (taken-over _ _ (length-unitsK _ _ _) (k .units-k .ensures))
-    (taken-over _ _ (length-unitsE _ _ _ _ _) (d .before .before .before .before .before .before .units-e .ensures))
+    (taken-over _ _ (length-unitsK _ _ _) (units-k-at d .units-k .ensures))
+    (taken-over _ _ (length-unitsE _ _ _ _ _) (units-e-at d .units-e .ensures))
     (d .before .before .div .ensures)
     (d .div2 .ensures)
     (sym (solution-answer _ _ _) ∙ s .solve-noisy-kkt .ensures)
@@ -149,12 +146,8 @@ pub solve-in-spec : {M : Type 1} → statement M
 solve-in-spec =
     tie.close
     (tie.spec
-    (λ c κs. let a = c .before .before .before .before .before .before .before .before .before .before .before .before .before .before .before in
-    let s = a .pre .0 in
-    (omega (arith, s .few), s .k-holds))  -- diagonal-scales-requires
-    (λ c κs. let a = c .before .before .before .before .before .before .before .before in
-    let s = a .before .before .before .before .before .before .before .before .pre .0 in
-    (s .columns, s .e-holds))  -- column-scales-requires
+    (λ c κs. search needs)  -- diagonal-scales-requires
+    (λ c κs. search needs)  -- column-scales-requires
     (λ c. omega (arith, square-fits (start c .pre .0)))  -- mul-square
     (λ c. omega (arith, entries-fits (start c .pre .0)))  -- mul-entries
     scales-hold  -- array-share-prefix-scales
@@ -186,17 +179,6 @@ solve-in-spec =
     array-share-prefix-columns-3
     slice-aggregate-original-2
     original-requires
-    (λ c. let d = div-at (solved-at (c .before .before .before)) in
-    d .before .before .before .before .before .before .before .before .before .before .before .before .units-k .kept .1 .1 .1 .0)  -- same-length
-    (λ c. let d = div-at (solved-at (c .before .before .before)) in
-    d .before .before .before .before .before .before .units-e .kept .1 .1 .1 .1 .1 .0)  -- same-length-2
-    (λ c. search needs)  -- same-length-3
-    (λ c. search needs)  -- same-length-4
-    (λ c. search needs)  -- same-length-5
-    (λ c. search needs)  -- same-length-6
-    (λ c. search needs)  -- same-length-7
-    (λ c. search needs)  -- same-length-8
-    (λ c. search needs)  -- same-length-9
-    (λ c. search needs)  -- same-length-10
-    (λ c. search needs)  -- same-length-11
+    (λ c. units-k-at (div-at (solved-at (c .before .before .before))) .units-k .kept .1 .1 .1 .0)  -- same-length
+    (λ c. units-e-at (div-at (solved-at (c .before .before .before))) .units-e .kept .1 .1 .1 .1 .1 .0)  -- same-length-2
     returns)

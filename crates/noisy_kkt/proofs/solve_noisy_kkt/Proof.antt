@@ -4,17 +4,11 @@ use Rattle.noisy_kkt.specs.NoisyKkt.{withScale, solveNoisyKkt}
 use Rattle.noisy_kkt.proofs.solve_noisy_kkt.Statement.{statement}
 use Rattle.noisy_kkt.proofs.solve_noisy_kkt.Tie as tie
 
-abbrev start : tie.At-match-keys1 → tie.Start
-start c = c .before .before .before .before .before .before .before .before .before .before .before .before .before .before .before .before .before
-
 returns : tie.Need-returns
 unfolding solveNoisyKkt withScale pick
 returns c =
-    let u = c .before .before .before .before .before .before .before .before .before in
-    let s = u .before .before .before .before .before .before .before .before .before in
-    let t = s .before .before .before .before .before .before .before .before .before .before .before in
-    let k = t .before .before in
-    rw (← k .before .before .finite .ensures, k .before .if1 .taken, ← k .k-scale .ensures, t .scale .given .1) (s .solve-by .ensures)
+    let k = c .before .before .before .before in
+    rw (← k .before .before .finite .ensures, k .before .if1 .taken, ← k .k-scale .ensures, c .before .before .scale .given .1) (c .solve-by .ensures)
 
 returns-2 : tie.Need-returns-2
 unfolding solveNoisyKkt withScale pick
@@ -34,18 +28,9 @@ solve-noisy-kkt-spec =
     (λ c κs. search needs)  -- finite-requires
     (λ c κs. search needs)  -- k-scale-requires
     (λ c. search needs)  -- enum-known-scale
-    (λ c κs. start (c .before .before .before .before .before .before .before .before .before .before .before) .pre)  -- solve-by-requires
+    (λ c κs. search needs)  -- solve-by-requires
     (λ c. search needs)  -- enum-told
     (λ c κs. search needs)  -- refused-requires
-    (λ c. search needs)  -- same-length
-    (λ c. search needs)  -- same-length-2
-    (λ c. search needs)  -- same-length-3
-    (λ c. search needs)  -- same-length-4
-    (λ c. search needs)  -- same-length-5
-    (λ c. search needs)  -- same-length-6
-    (λ c. search needs)  -- same-length-7
-    (λ c. search needs)  -- same-length-8
-    (λ c. search needs)  -- same-length-9
     returns
     returns-2
     (λ c κs. search needs)  -- refused-requires-2

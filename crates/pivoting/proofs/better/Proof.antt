@@ -1,19 +1,22 @@
-use Rattle.folds.specs.Kit.{kit, refl, sym, _∙_, pick-true, pick-false}
-use Rattle.pivoting.specs.Pivoting.{better}
+use Rattle.folds.specs.Kit.{kit, refl, sym, ap, _∙_, pick-true, pick-false}
+use mathlib.Core.Bool.{not}
+use Rattle.folds.specs.Best.{better}
+use Rattle.pivoting.specs.Pivoting.{asBest}
 use Rattle.pivoting.proofs.better.Statement.{statement}
 use Rattle.pivoting.proofs.better.Tie as tie
 
 returns : tie.Need-returns
-unfolding better
+unfolding asBest better
 returns c = rw (c .enum-told .given .1)
 
 returns-2 : tie.Need-returns-2
-unfolding better
-returns-2 c = rw (c .before .before .before .best .given .1) (pick-true _ _ (sym (c .before .total-less .ensures) ∙ c .if1 .taken) refl)
+unfolding asBest better
+returns-2 c =
+    rw (c .before .before .before .best .given .1) (pick-false _ _ (ap not (sym (c .before .total-less .ensures) ∙ c .if1 .taken)) refl)
 
 returns-3 : tie.Need-returns-3
-unfolding better
-returns-3 c = rw (c .before .before .before .best .given .1) (pick-false _ _ (sym (c .before .total-less .ensures) ∙ c .if1 .left) refl)
+unfolding asBest better
+returns-3 c = rw (c .before .before .before .best .given .1) (pick-true _ _ (ap not (sym (c .before .total-less .ensures) ∙ c .if1 .left)) refl)
 
 pub better-spec : {M : Type 1} → statement M
 better-spec =

@@ -1,20 +1,18 @@
-use Rattle.folds.specs.Kit.{_≡_, _-_, _≤_, fold, kit}
-use Rattle.pivoting.specs.Pivoting.{betterOne, largestColumn}
-use Rattle.pivoting.specs.declared.Largest.the-variants.{Nothing}
+use Rattle.folds.specs.Kit.{_≡_, _-_, _≤_, kit}
+use Rattle.folds.specs.Best.{bestOf}
+use Rattle.pivoting.specs.Pivoting.{offered, asBest, atLeast}
+use Rattle.pivoting.specs.Laws.{largest-end}
 use Rattle.pivoting.proofs.largest_column.Statement.{statement}
 use Rattle.pivoting.proofs.largest_column.Tie as tie
 
 abbrev Inv-loop : tie.InvT-loop
-Inv-loop left n m remaining best₀ j₀ best j = (j ≤ m) × (best ≡ fold j (betterOne n left remaining) Nothing)
+Inv-loop left n m remaining best₀ j₀ best j = (j ≤ m) × (asBest best ≡ bestOf atLeast j (offered n left remaining))
 
 abbrev μ-loop : tie.MeasureT-loop
 μ-loop left n m remaining best₀ j₀ best j = m - j
 
-returns : tie.Need-returns Inv-loop μ-loop
-unfolding largestColumn
-returns c = search kit
-
 pub largest-column-spec : {M : Type 1} → statement M
+unfolding asBest bestOf
 largest-column-spec =
     tie.close
     (tie.spec Inv-loop μ-loop
@@ -23,4 +21,4 @@ largest-column-spec =
     (λ c. search kit)  -- add-j
     (λ c. search kit)  -- loop-less
     (λ c. search kit)  -- loop-again
-    returns)
+    (λ c. largest-end _ _ _ _ (search kit)))  -- returns

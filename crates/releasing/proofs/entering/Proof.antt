@@ -1,13 +1,13 @@
-use Rattle.folds.specs.Kit.{_≡_, _-_, _≤_, arith, getD, fold, kit, fold-call, fold-end}
-use mathlib.Core.Bool.{false}
-use Rattle.releasing.specs.declared.Fastest.the-variants.{Nothing}
-use Rattle.releasing.specs.Release.{fasterOne, wrong, entering as enteringOf}
+use Rattle.folds.specs.Kit.{_≡_, _-_, _≤_, arith, kit, fold-call}
+use Rattle.folds.specs.Best.{bestOf}
+use Rattle.releasing.specs.Release.{wrong, offers, asBest, atLeast}
+use Rattle.releasing.specs.Laws.{entering-end}
 use Rattle.releasing.proofs.entering.Statement.{statement}
 use Rattle.releasing.proofs.entering.Tie as tie
 
 abbrev Inv-loop : tie.InvT-loop
 Inv-loop fixed refused gradient pushback n least segments state best₀ i₀ best i =
-    (i ≤ n) × (best ≡ fold i (λ k b. fasterOne (getD refused k false) (wrong segments state fixed gradient pushback least k) k b) Nothing)
+    (i ≤ n) × (asBest best ≡ bestOf atLeast i (offers segments state fixed refused gradient pushback least))
 
 abbrev μ-loop : tie.MeasureT-loop
 μ-loop fixed refused gradient pushback n least segments state best₀ i₀ best i = n - i
@@ -18,17 +18,8 @@ wrong-one-requires c κs =
     let f = g .before .before .before .before .before .before in
     (f .pre .5 _ (g .loop-test .taken), f .pre .6 _ (g .loop-test .taken))
 
-loop-again : tie.Need-loop-again Inv-loop μ-loop
-unfolding wrong
-loop-again c =
-    let inv = c .before .before .before .before .before .before .before .before .before .loop .inv in
-    (omega arith, fold-call _ _ _ (inv .1) (rw (c .faster-one .ensures, c .before .before .wrong-one .ensures)))
-
-returns : tie.Need-returns Inv-loop μ-loop
-unfolding enteringOf
-returns c = fold-end _ _ _ _ (c .before .loop .inv .0) (c .loop-test .left) (c .before .loop .inv .1)
-
 pub entering-spec : {M : Type 1} → statement M
+unfolding asBest bestOf wrong
 entering-spec =
     tie.close
     (tie.spec Inv-loop μ-loop
@@ -47,5 +38,6 @@ entering-spec =
     (λ c κs. search kit)  -- faster-one-requires
     (λ c. search kit)  -- add-i
     (λ c. search kit)  -- loop-less
-    loop-again
-    returns)
+    (λ c. let inv = c .before .before .before .before .before .before .before .before .before .loop .inv in
+    (omega arith, fold-call _ _ _ (inv .1) (rw (c .faster-one .ensures, c .before .before .wrong-one .ensures))))  -- loop-again
+    (λ c. entering-end _ _ _ _ _ _ _ _ (search kit)))  -- returns

@@ -8,10 +8,10 @@ use Rattle.slack_rows.proofs.any_slack_column.Statement.{statement}
 use Rattle.slack_rows.proofs.any_slack_column.Tie as tie
 
 abbrev Inv-loop : tie.InvT-loop
-Inv-loop slacks n m originals first j t₀ t-end t = (t ≤ length slacks) × (false ≡ some t (λ k. eqb (slackColumn (index slacks k) originals first) j))
+Inv-loop slacks originals first j t₀ t-end t = (t ≤ length slacks) × (false ≡ some t (λ k. eqb (slackColumn (index slacks k) originals first) j))
 
 abbrev μ-loop : tie.MeasureT-loop
-μ-loop slacks n m originals first j t₀ t-end t = length slacks - t
+μ-loop slacks originals first j t₀ t-end t = length slacks - t
 
 ruleset kit = (somes, needs)
 
@@ -24,8 +24,7 @@ any-slack-column-spec =
     (λ c. search kit)  -- mul-slack-column
     (λ c. search kit)  -- shared-slice-read-slack-column
     (λ c κs. let p = c .before .before .before .before .pre in
-    let h = p .row (c .before .before .loop .t) (c .before .loop-test .taken) in
-    omega (arith, h .from, h .below, p .few, p .columns))  -- slack-column-requires
+    let h = p .0 (c .before .before .loop .t) (c .before .loop-test .taken) in (h .0, h .1, p .1))  -- slack-column-requires
     (λ c. some-stop _ _ _ (c .before .before .before .loop-test .taken)
     (rw (← c .before .slack-column .ensures) (eq-eqb _ _ (c .if1 .taken))))  -- returns
     (λ c. search kit)  -- add-t

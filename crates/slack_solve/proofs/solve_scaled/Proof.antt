@@ -1,5 +1,7 @@
 use Rattle.folds.specs.Kit.{sym, arith}
 use lib.Seq.{length-take-le}
+use Rattle.sizes.specs.Sizes as Sizes
+use Rattle.slacks.specs.Laws.{withZeros-taken}
 use Rattle.slack_solve.specs.Laws.{scaled-from}
 use Rattle.slack_solve.proofs.solve_scaled.Statement.{statement}
 use Rattle.slack_solve.proofs.solve_scaled.Tie as tie
@@ -80,7 +82,10 @@ engine-sized-requires c κs =
 returns : tie.Need-returns
 returns c =
     let z = c .before .before .before .before .before .before .before .before .before .before in
-    scaled-from _ _ _ _ _ _ _ _ _ _ _ _ _ _ _ _ _ (z .before .with-zeros .ensures) (z .with-zeros2 .ensures)
+    let p = start z .pre .0 in
+    scaled-from _ _ _ _ _ _ _ _ _ _ _ _ _ _ _ _ _
+    (withZeros-taken _ _ _ Sizes.variables (omega (arith, p .originals, p .rows)) (z .before .with-zeros .ensures))
+    (withZeros-taken _ _ _ Sizes.variables (omega (arith, p .equalities, p .rows)) (z .with-zeros2 .ensures))
     (c .before .before .before .before .before .before .before .before .div .ensures)
     (c .before .before .before .before .before .before .div2 .ensures)
     (c .before .before .before .before .before .all-segments .ensures .0)
@@ -96,10 +101,10 @@ solve-scaled-spec =
     (λ c. let p = c .before .before .before .before .before .before .before .before .before .before .before .before .before .before .pre .0 in
     omega (arith, p .equalities, p .rows))  -- add-w
     (λ c κs. let p = c .before .before .before .before .before .before .before .before .before .before .before .before .before .before .pre .0 in
-    (p .originals, p .rows, p .c-holds))  -- with-zeros-requires
+    (omega (arith, p .originals), p .c-holds))  -- with-zeros-requires
     (λ c κs. let s = c .before in
     let p = s .before .before .before .before .before .before .before .before .before .before .before .before .before .before .pre .0 in
-    (omega (arith, p .equalities), p .rows, p .b-holds))  -- with-zeros-requires-2
+    (omega (arith, p .equalities), p .b-holds))  -- with-zeros-requires-2
     (λ c. let p = start c .pre .0 in
     omega (arith, p .originals, p .rows))  -- array-share-prefix-c-all
     slice-aggregate-div

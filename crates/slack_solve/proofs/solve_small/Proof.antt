@@ -1,7 +1,7 @@
 use Rattle.folds.specs.Kit.{_+_, _≤_, arith, needs}
 use Rattle.folds.specs.Cell.{area}
 use Rattle.sizes.specs.Sizes as Sizes
-use Rattle.in_units.specs.Room.{few}
+use Rattle.sizes.specs.Sizes.{few}
 use Rattle.slack_solve.proofs.solve_small.Statement.{statement}
 use Rattle.slack_solve.proofs.solve_small.Tie as tie
 

@@ -1,7 +1,7 @@
 use Rattle.folds.specs.Kit.{_≡_, _≤_, arith, length, kit}
 use Rattle.folds.specs.Cell.{area}
 use native.Mathlib.Nat.{le-refl}
-use Rattle.factor.specs.Laws.{listed-few}
+use Rattle.factor.specs.Laws.{listed-few, listed-below}
 use Rattle.factoring.specs.Kept.{Factor, factor, update, settled}
 use Rattle.factoring.specs.Laws.{update-good}
 use Rattle.factoring.proofs.Factoring.update.Statement.{statement}
@@ -22,6 +22,20 @@ last-updated-requires c κs =
       },
       p .good .held,
       p .rises,
+    )
+
+afresh-requires : tie.Need-afresh-requires
+afresh-requires c κs =
+    let s = c .before .before .before .before .before .before .before .before .before .before .before .before .before .before .before in
+    let p = s .pre in
+    let k = p .good .singular in (
+      p .block .q-holds,
+      omega (arith, listed s, p .block .few),
+      listed-below _ _ (p .rises) _ (p .block .few),
+      listed-below _ _ (p .rises) _ (p .block .within),
+      record { fits = k .fits; below = listed-below _ _ (k .rises) _ (p .block .few) },
+      omega (arith, area (listed s) (listed s), p .l-holds),
+      omega (arith, area (listed s) (le-refl (s .args .n)), p .room-holds),
     )
 
 abbrev updated : tie.Start → Factor
@@ -45,7 +59,7 @@ returns-2 c =
     let a = c .before .before .before .before in
     let u = c .before .before .before .before .before .before .before .before .before .before .before .before in
     let s = u .before .before .before .before .before .before .before .before in
-    let e : factor (a .afresh .result) (a .afresh .last .1 .1 .1 .1 .1 .0) ≡ updated s =
+    let e : factor (a .afresh .result) (a .afresh .last .1 .1 .1 .1 .0) ≡ updated s =
     rw (← u .last-updated .ensures, c .before .before .before .before .before .before .before .if1 .left) (a .afresh .ensures) in
     (e, update-good _ (s .pre .block .few) _ _ _ _ _ (s .pre .rises) (s .pre .good) e)
 
@@ -59,8 +73,7 @@ update-spec =
     (λ c. search kit)  -- same-length
     (λ c. search kit)  -- same-length-2
     returns  -- returns
-    (λ c κs. let p = c .before .before .before .before .before .before .before .before .before .before .before .before .before .before .before .pre in
-    (p .block, p .rises, p .good .singular, omega (arith, p .l-holds), omega (arith, p .room-holds)))  -- afresh-requires
+    afresh-requires  -- afresh-requires
     (λ c. search kit)  -- same-length-3
     (λ c. search kit)  -- same-length-4
     returns-2)  -- returns-2

@@ -1,2 +1,0 @@
-pub mod FreePass
-pub mod Laws

@@ -1,0 +1,1 @@
+// Nothing runs here: what the proofs by hand share.
