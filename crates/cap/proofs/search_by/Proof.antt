@@ -2,24 +2,25 @@ use Rattle.folds.specs.Kit.{_≡_, refl, sym, _∙_, _+_, _≤_, arith, length,
 use lib.ListN.{take}
 use lib.Seq.{length-take-le}
 use Rattle.sizes.specs.Sizes as Sizes
-use Rattle.active.specs.Laws.{answer-optimal, answer-nonFinite, answer-singular, answer-unbounded, answer-notConverged}
+use Rattle.active.specs.Laws.{answerOf-optimal, answerOf-nonFinite, answerOf-singular, answerOf-unbounded, answerOf-notConverged}
 use Rattle.bracket.specs.Ends.{new-rising}
 use Rattle.bracket.specs.Laws.{new-of}
 use Rattle.cap.specs.Capped.{searchBy}
 use Rattle.cap.specs.Laws.{cappedOf-optimal, cappedOf-nonFinite, cappedOf-singular, cappedOf-notConverged, search-free, search-past, search-unbounded}
+use Rattle.cap.specs.Laws.{search-as}
 use Rattle.cap.proofs.search_by.Statement.{statement}
 use Rattle.cap.proofs.search_by.Tie as tie
 
-fits : (c : tie.Start) → c .args .n ≤ length (c .args .t2)
+fits : (c : tie.Start) → c .args .n ≤ length (c .args .solved .x)
 fits c =
     let h = c .pre .0 .originals in
-    let l : length (c .args .t2) ≡ Sizes.variables = search needs in omega arith
+    let l : length (c .args .solved .x) ≡ Sizes.variables = search needs in omega arith
 
 columns-fit : (c : tie.Start) → c .args .m + c .args .r ≤ Sizes.columns
 columns-fit c = omega (arith, c .pre .0 .equalities, c .pre .0 .rows)
 
-abbrev start : tie.After-x → tie.Start
-start c = c .before .before .before .before .before .before .before .before .before .before .before .before .before .before
+abbrev start : tie.After-x2 → tie.Start
+start c = c .before .before .before .before .before .before .before .before .before .before .before .before .before .before .before .before
 
 slice-aggregate-turnover : tie.Need-slice-aggregate-turnover
 slice-aggregate-turnover c = sym (length-take-le _ _ (fits (start c)))
@@ -34,7 +35,7 @@ slice-aggregate-within c = sym (length-take-le _ _ (fits (start (c .before .befo
 returns : tie.Need-returns
 returns c =
     let t = c .before .before .before in
-    rw (t .before .before .enum-told .given .1, answer-optimal)
+    rw (answerOf-optimal _ _ (start (t .before) .args .solved) (t .before .before .before .before .enum-told .given .1))
     (search-free _ _ _ _ _ _ _ _ _ _ _ _ _ _ _ _ _ _ _ _ (t .turnover .ensures) (sym (c .before .within .ensures) ∙ c .if1 .taken)
     (cappedOf-optimal _ _ _ refl))
 
@@ -54,7 +55,7 @@ returns-2 c =
     let t = k .before .before .before in
     let s = start (t .before) in
     let a = s .args in
-    rw (t .before .before .enum-told .given .1, answer-optimal)
+    rw (answerOf-optimal _ _ (a .solved) (t .before .before .before .before .enum-told .given .1))
     (search-past _ _ _ _ _ _ _ _ _ _ _ _ _ _ _ _ _ _ _ _ (t .turnover .ensures) (sym (k .before .within .ensures) ∙ k .if1 .left)
     (new-of (a .n) (a .m + a .r) _ _ _ (c .before .before .new .ensures) (columns-fit s))
     (c .before .reach-and-narrow .ensures) (c .accepted .ensures _ _))
@@ -63,7 +64,7 @@ returns-3 : tie.Need-returns-3
 returns-3 c =
     let s = start-2 (c .before .before .before .before) in
     let a = s .args in
-    rw (c .before .before .before .before .enum-told2 .given .1, answer-unbounded)
+    rw (answerOf-unbounded _ _ (a .solved) (c .before .before .before .before .enum-told2 .given .1))
     (search-unbounded _ _ _ _ _ _ _ _ _ _ _ _ _ _ _ _ _ (c .before .before .before .infinity .ensures)
     (new-of (a .n) (a .m + a .r) _ _ _ (c .before .before .new2 .ensures) (columns-fit s))
     (c .before .reach-and-narrow2 .ensures) (c .accepted2 .ensures _ _))
@@ -74,7 +75,7 @@ search-by-spec =
     tie.close
     (tie.spec
     (λ c. search needs)  -- enum-told
-    (λ c. fits (c .before .before .before .before .before .before .before .before .before .before .before .before .before))  -- array-share-prefix-x
+    (λ c. fits (c .before .before .before .before .before .before .before .before .before .before .before .before .before .before .before))  -- array-share-prefix-x
     slice-aggregate-turnover
     turnover-requires
     (λ c. fits (start (c .before)))  -- array-share-prefix-x-2
@@ -97,6 +98,6 @@ search-by-spec =
     (λ c κs. search needs)  -- refused-requires-3
     returns-2
     returns-3
-    (λ c. cappedOf-nonFinite _ _ _ (c .refused .ensures) ∙ rw (c .before .enum-told3 .given .1, answer-nonFinite))  -- returns-4
-    (λ c. cappedOf-singular _ _ _ (c .refused2 .ensures) ∙ rw (c .before .enum-told4 .given .1, answer-singular))  -- returns-5
-    (λ c. cappedOf-notConverged _ _ _ (c .refused3 .ensures) ∙ rw (c .before .enum-told5 .given .1, answer-notConverged)))  -- returns-6
+    (λ c. search-as _ _ _ _ _ _ _ _ _ _ _ _ _ _ _ _ _ (answerOf-nonFinite _ _ _ (c .before .enum-told3 .given .1)) (cappedOf-nonFinite _ _ _ (c .refused .ensures)))  -- returns-4
+    (λ c. search-as _ _ _ _ _ _ _ _ _ _ _ _ _ _ _ _ _ (answerOf-singular _ _ _ (c .before .enum-told4 .given .1)) (cappedOf-singular _ _ _ (c .refused2 .ensures)))  -- returns-5
+    (λ c. search-as _ _ _ _ _ _ _ _ _ _ _ _ _ _ _ _ _ (answerOf-notConverged _ _ _ (c .before .enum-told5 .given .1)) (cappedOf-notConverged _ _ _ (c .refused3 .ensures))))  -- returns-6
