@@ -6,8 +6,8 @@ use Rattle.active.specs.Laws.{answerOf-optimal, answerOf-nonFinite, answerOf-si
 use Rattle.bracket.specs.Ends.{new-rising}
 use Rattle.bracket.specs.Laws.{new-of}
 use Rattle.cap.specs.Capped.{searchBy}
-use Rattle.cap.specs.Laws.{cappedOf-optimal, cappedOf-nonFinite, cappedOf-singular, cappedOf-notConverged, search-free, search-past, search-unbounded}
-use Rattle.cap.specs.Laws.{search-as}
+use Rattle.cap.specs.Laws.{cappedOf-optimal, cappedOf-nonFinite, cappedOf-singular, cappedOf-notConverged}
+use Rattle.cap.specs.Laws.{search-free, search-past, search-unbounded, search-as}
 use Rattle.cap.proofs.search_by.Statement.{statement}
 use Rattle.cap.proofs.search_by.Tie as tie
 
@@ -19,8 +19,11 @@ fits c =
 columns-fit : (c : tie.Start) → c .args .m + c .args .r ≤ Sizes.columns
 columns-fit c = omega (arith, c .pre .0 .equalities, c .pre .0 .rows)
 
+abbrev start-1 : tie.After-multipliers → tie.Start
+start-1 c = c .before .before .before .before .before .before .before .before .before .before .before .before .before .before .before
+
 abbrev start : tie.After-x2 → tie.Start
-start c = c .before .before .before .before .before .before .before .before .before .before .before .before .before .before .before .before
+start c = start-1 (c .before)
 
 slice-aggregate-turnover : tie.Need-slice-aggregate-turnover
 slice-aggregate-turnover c = sym (length-take-le _ _ (fits (start c)))
@@ -75,7 +78,7 @@ search-by-spec =
     tie.close
     (tie.spec
     (λ c. search needs)  -- enum-told
-    (λ c. fits (c .before .before .before .before .before .before .before .before .before .before .before .before .before .before .before))  -- array-share-prefix-x
+    (λ c. fits (start-1 c))  -- array-share-prefix-x
     slice-aggregate-turnover
     turnover-requires
     (λ c. fits (start (c .before)))  -- array-share-prefix-x-2
@@ -98,6 +101,9 @@ search-by-spec =
     (λ c κs. search needs)  -- refused-requires-3
     returns-2
     returns-3
-    (λ c. search-as _ _ _ _ _ _ _ _ _ _ _ _ _ _ _ _ _ (answerOf-nonFinite _ _ _ (c .before .enum-told3 .given .1)) (cappedOf-nonFinite _ _ _ (c .refused .ensures)))  -- returns-4
-    (λ c. search-as _ _ _ _ _ _ _ _ _ _ _ _ _ _ _ _ _ (answerOf-singular _ _ _ (c .before .enum-told4 .given .1)) (cappedOf-singular _ _ _ (c .refused2 .ensures)))  -- returns-5
-    (λ c. search-as _ _ _ _ _ _ _ _ _ _ _ _ _ _ _ _ _ (answerOf-notConverged _ _ _ (c .before .enum-told5 .given .1)) (cappedOf-notConverged _ _ _ (c .refused3 .ensures))))  -- returns-6
+    (λ c. search-as _ _ _ _ _ _ _ _ _ _ _ _ _ _ _ _ _ (answerOf-nonFinite _ _ _ (c .before .enum-told3 .given .1))
+    (cappedOf-nonFinite _ _ _ (c .refused .ensures)))  -- returns-4
+    (λ c. search-as _ _ _ _ _ _ _ _ _ _ _ _ _ _ _ _ _ (answerOf-singular _ _ _ (c .before .enum-told4 .given .1))
+    (cappedOf-singular _ _ _ (c .refused2 .ensures)))  -- returns-5
+    (λ c. search-as _ _ _ _ _ _ _ _ _ _ _ _ _ _ _ _ _ (answerOf-notConverged _ _ _ (c .before .enum-told5 .given .1))
+    (cappedOf-notConverged _ _ _ (c .refused3 .ensures))))  -- returns-6
