@@ -29,8 +29,10 @@ fn solve_in(
     let columns = units::column_scales(e, n, m);
     let square = n * n;
     let entries = n * m;
-    units::units_k(k, n, &scales[..n], uk);
-    units::units_e(e, n, m, &scales[..n], &columns[..m], ue);
+    vector::copy(k, square, uk);
+    vector::copy(e, entries, ue);
+    units::units_k(uk, n, &scales[..n]);
+    units::units_e(ue, n, m, &scales[..n], &columns[..m]);
     let uc = dense::div(c, &scales[..n], n);
     let ub = dense::div(b, &columns[..m], m);
     let s = noisy_kkt::solve_noisy_kkt(

@@ -184,10 +184,10 @@ fn solve_scaled(
     in_units::engine_sized(uq, &uc[..v], ue, &ub[..w], segments, &first[..v], n, m, r)
 }
 
-// The solve of Q and E with the slacks, in `Units`, and back. The slices uq and ue are work memory.
+// The solve of Q and E with the slacks, in `Units`, and back; they are brought to units in place.
 fn solve_with_slacks(
-    q_all: &[f64],
-    e_all: &[f64],
+    q_all: &mut [f64],
+    e_all: &mut [f64],
     c: &[f64],
     e: &[f64],
     b: &[f64],
@@ -202,16 +202,12 @@ fn solve_with_slacks(
     n: usize,
     m: usize,
     r: usize,
-    uq: &mut [f64],
-    ue: &mut [f64],
 ) -> Answer
     requires { ⌜ Holds n m r (now c) (now b) (now lower) (now upper) (now a) (now «row_lower») (now «row_upper») (now at) (now slopes)
         (now start)
         × (n * m ≤ length (now e))
-        × ((n + r) * (n + r) ≤ length (now «q_all»))
-        × ((n + r) * (m + r) ≤ length (now «e_all»))
-        × ((n + r) * (n + r) ≤ length (now uq))
-        × ((n + r) * (m + r) ≤ length (now ue)) ⌝ }
+        × (length (now «q_all») ≡ (n + r) * (n + r))
+        × (length (now «e_all») ≡ (n + r) * (m + r)) ⌝ }
     ensures { λ s. ⌜ answerOf n (m + r) s
         ≡ Definition.solveWithSlacks n m r (now («q_all» .entry)) (now («e_all» .entry)) (now (c .entry)) (now (e .entry)) (now (b .entry))
         (now (lower .entry)) (now (upper .entry)) (now (a .entry)) (now («row_lower» .entry)) (now («row_upper» .entry)) (now (at .entry))
@@ -219,15 +215,13 @@ fn solve_with_slacks(
 {
     let v = n + r;
     let w = m + r;
-    let square = v * v;
-    let entries = v * w;
-    let scales = slacks::scales_with_slacks(q_all, a, n, r);
-    let columns = units::column_scales(e_all, v, w);
-    units::units_k(q_all, v, &scales[..v], uq);
-    units::units_e(e_all, v, w, &scales[..v], &columns[..w], ue);
+    let scales = slacks::scales_with_slacks(&q_all[..], a, n, r);
+    let columns = units::column_scales(&e_all[..], v, w);
+    units::units_k(q_all, v, &scales[..v]);
+    units::units_e(e_all, v, w, &scales[..v], &columns[..w]);
     let s = solve_scaled(
-        &uq[..square],
-        &ue[..entries],
+        &q_all[..],
+        &e_all[..],
         c,
         b,
         lower,
@@ -265,7 +259,7 @@ fn solve_with_slacks(
     )
 }
 
-// The problem with the slacks. The slices from q_all on are work memory.
+// The problem with the slacks; q_all and e_all are work memory.
 fn solve_in(
     q: &[f64],
     c: &[f64],
@@ -284,17 +278,13 @@ fn solve_in(
     r: usize,
     q_all: &mut [f64],
     e_all: &mut [f64],
-    uq: &mut [f64],
-    ue: &mut [f64],
 ) -> Answer
     requires { ⌜ Holds n m r (now c) (now b) (now lower) (now upper) (now a) (now «row_lower») (now «row_upper») (now at) (now slopes)
         (now start)
         × (n * n ≤ length (now q))
         × (n * m ≤ length (now e))
         × ((n + r) * (n + r) ≤ length (now «q_all»))
-        × ((n + r) * (m + r) ≤ length (now «e_all»))
-        × ((n + r) * (n + r) ≤ length (now uq))
-        × ((n + r) * (m + r) ≤ length (now ue)) ⌝ }
+        × ((n + r) * (m + r) ≤ length (now «e_all»)) ⌝ }
     ensures { λ s. ⌜ answerOf n (m + r) s
         ≡ Definition.solve (quadratic n m r (now (q .entry)) (now (c .entry)) (now (e .entry)) (now (b .entry)) (now (lower .entry))
         (now (upper .entry)) (now (a .entry)) (now («row_lower» .entry)) (now («row_upper» .entry)) (now (at .entry)) (now (slopes .entry))
@@ -306,8 +296,8 @@ fn solve_in(
     slacks::with_slacks_q(q, n, r, q_all);
     slacks::with_slacks_e(e, a, n, m, r, e_all);
     solve_with_slacks(
-        &q_all[..square],
-        &e_all[..entries],
+        &mut q_all[..square],
+        &mut e_all[..entries],
         c,
         e,
         b,
@@ -322,8 +312,6 @@ fn solve_in(
         n,
         m,
         r,
-        uq,
-        ue,
     )
 }
 
@@ -357,8 +345,6 @@ fn solve_small(
 {
     let mut q_all = [0.0; SMALL_ALL];
     let mut e_all = [0.0; SMALL_ALL];
-    let mut uq = [0.0; SMALL_ALL];
-    let mut ue = [0.0; SMALL_ALL];
     solve_in(
         q,
         c,
@@ -377,8 +363,6 @@ fn solve_small(
         r,
         &mut q_all,
         &mut e_all,
-        &mut uq,
-        &mut ue,
     )
 }
 
@@ -410,8 +394,6 @@ fn solve_large(
 {
     let mut q_all = [0.0; ALL_SQUARE];
     let mut e_all = [0.0; ALL_TALL];
-    let mut uq = [0.0; ALL_SQUARE];
-    let mut ue = [0.0; ALL_TALL];
     solve_in(
         q,
         c,
@@ -430,8 +412,6 @@ fn solve_large(
         r,
         &mut q_all,
         &mut e_all,
-        &mut uq,
-        &mut ue,
     )
 }
 

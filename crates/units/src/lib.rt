@@ -131,30 +131,23 @@ pub fn column_scales(e: &[f64], n: usize, m: usize) -> [f64; sizes::COLUMNS]
     y
 }
 
-// K in units, over the start of y; dividing by each scale in turn, so that tiny scales' product can't underflow.
-pub fn units_k(k: &[f64], n: usize, scales: &[f64], y: &mut [f64])
-    requires { ⌜ (n ≤ Sizes.variables) × (n * n ≤ length (now k)) × (n ≤ length (now scales)) × (n * n ≤ length (now y)) ⌝ }
-    ensures { λ _. ⌜ now (y .exit) ≡ over (Units.unitsK n (now (k .entry)) (now (scales .entry))) (now (y .entry)) ⌝ }
+// K in units, in place; dividing by each scale in turn, so that tiny scales' product can't underflow.
+pub fn units_k(k: &mut [f64], n: usize, scales: &[f64])
+    requires { ⌜ (n * n ≤ length (now k)) × (n ≤ length (now scales)) ⌝ }
+    ensures { λ _. ⌜ now (k .exit) ≡ over (Units.unitsK n (now (k .entry)) (now (scales .entry))) (now (k .entry)) ⌝ }
 {
-    vector::copy(k, n * n, y);
-    matrix::divide_rows(y, n, n, scales);
-    matrix::divide_columns(y, n, n, scales);
+    matrix::divide_rows(k, n, n, scales);
+    matrix::divide_columns(k, n, n, scales);
 }
 
-// E in units, over the start of y; `columns` are the columns' scales.
-pub fn units_e(e: &[f64], n: usize, m: usize, scales: &[f64], columns: &[f64], y: &mut [f64])
-    requires { ⌜ (n ≤ Sizes.variables)
-        × (m ≤ Sizes.columns)
-        × (n * m ≤ length (now e))
-        × (n ≤ length (now scales))
-        × (m ≤ length (now columns))
-        × (n * m ≤ length (now y)) ⌝ }
-    ensures { λ _. ⌜ now (y .exit)
-        ≡ over (Units.unitsE n m (now (e .entry)) (now (scales .entry)) (now (columns .entry))) (now (y .entry)) ⌝ }
+// E in units, in place; `columns` are the columns' scales.
+pub fn units_e(e: &mut [f64], n: usize, m: usize, scales: &[f64], columns: &[f64])
+    requires { ⌜ (n * m ≤ length (now e)) × (n ≤ length (now scales)) × (m ≤ length (now columns)) ⌝ }
+    ensures { λ _. ⌜ now (e .exit)
+        ≡ over (Units.unitsE n m (now (e .entry)) (now (scales .entry)) (now (columns .entry))) (now (e .entry)) ⌝ }
 {
-    vector::copy(e, n * m, y);
-    matrix::divide_columns(y, n, m, columns);
-    matrix::divide_rows(y, n, m, scales);
+    matrix::divide_columns(e, n, m, columns);
+    matrix::divide_rows(e, n, m, scales);
 }
 
 fn diagonal_scale(k: &[f64], n: usize, i: usize) -> f64

@@ -7,8 +7,8 @@ use Rattle.slack_solve.specs.Laws.{solve-from}
 use Rattle.slack_solve.proofs.solve_in.Statement.{statement}
 use Rattle.slack_solve.proofs.solve_in.Tie as tie
 
-abbrev start : tie.After-slice-known4 → tie.Start
-start c = c .before .before .before .before .before .before .before .before .before .before .before .before .before .before .before .before
+abbrev start : tie.After-slice-known2 → tie.Start
+start c = c .before .before .before .before .before .before .before .before .before .before .before .before .before .before
 
 with-slacks-q-requires : tie.Need-with-slacks-q-requires
 with-slacks-q-requires c κs = let p = start (c .before) .pre in (p .0 .originals, p .0 .rows, p .1, p .3)
@@ -18,32 +18,26 @@ with-slacks-e-requires c κs =
     let p = start (c .before .before .before .before .before) .pre in
     (p .0 .originals, p .0 .equalities, p .0 .rows, p .2, p .0 .a-holds, p .4)
 
-slice-reshare-prefix-solve-with-slacks : tie.Need-slice-reshare-prefix-solve-with-slacks
-slice-reshare-prefix-solve-with-slacks c = omega (arith, start (c .before .before .before .before .before .before .before .before) .pre .3)
+slice-relend-prefix-solve-with-slacks : tie.Need-slice-relend-prefix-solve-with-slacks
+slice-relend-prefix-solve-with-slacks c = omega (arith, start (c .before .before .before .before .before .before .before .before) .pre .3)
 
 slice-aggregate-solve-with-slacks : tie.Need-slice-aggregate-solve-with-slacks
-slice-aggregate-solve-with-slacks c = sym (length-take-le _ _ (slice-reshare-prefix-solve-with-slacks (c .before)))
+slice-aggregate-solve-with-slacks c = sym (length-take-le _ _ (slice-relend-prefix-solve-with-slacks (c .before)))
 
-slice-reshare-prefix-solve-with-slacks-2 : tie.Need-slice-reshare-prefix-solve-with-slacks-2
-slice-reshare-prefix-solve-with-slacks-2 c = omega (arith, start (c .before .before .before .before .before .before .before .before .before) .pre .4)
+slice-relend-prefix-solve-with-slacks-2 : tie.Need-slice-relend-prefix-solve-with-slacks-2
+slice-relend-prefix-solve-with-slacks-2 c = omega (arith, start (c .before .before .before .before .before .before .before .before .before) .pre .4)
 
 slice-aggregate-solve-with-slacks-2 : tie.Need-slice-aggregate-solve-with-slacks-2
-slice-aggregate-solve-with-slacks-2 c = sym (length-take-le _ _ (slice-reshare-prefix-solve-with-slacks-2 (c .before)))
+slice-aggregate-solve-with-slacks-2 c = sym (length-take-le _ _ (slice-relend-prefix-solve-with-slacks-2 (c .before)))
 
 solve-with-slacks-requires : tie.Need-solve-with-slacks-requires
 solve-with-slacks-requires c κs =
-    let p = start (c .before .before .before .before .before .before .before .before .before .before .before .before) .pre in (
-      p .0,
-      p .2,
-      omega (arith, slice-aggregate-solve-with-slacks (c .before .before .before)),
-      omega (arith, slice-aggregate-solve-with-slacks-2 (c .before .before)),
-      p .5,
-      p .6,
-    )
+    let p = start (c .before .before .before .before .before .before .before .before .before .before) .pre in
+    (p .0, p .2, sym (slice-aggregate-solve-with-slacks (c .before)), sym (slice-aggregate-solve-with-slacks-2 c))
 
 returns : tie.Need-returns
 returns c =
-    let e = c .before .before .before .before .before .before .before .before .before .before .before in
+    let e = c .before .before .before .before .before .before .before .before .before in
     solve-from _ _ _ _ _ _ _ _ _ _ _ _ _ _ _ (taken-over _ _ (length-withSlacksQ _ _ _) (e .before .before .before .before .with-slacks-q .ensures))
     (taken-over _ _ (length-withSlacksE _ _ _ _ _) (e .with-slacks-e .ensures))
     (c .before .before .before .before .solve-with-slacks .ensures)
@@ -58,13 +52,11 @@ solve-in-spec =
     (λ c. let p = start c .pre .0 in small-fits (omega (arith, p .originals, p .rows)) (omega (arith, p .equalities, p .rows)))  -- mul-entries
     with-slacks-q-requires
     with-slacks-e-requires
-    slice-reshare-prefix-solve-with-slacks
+    slice-relend-prefix-solve-with-slacks
     slice-aggregate-solve-with-slacks
-    slice-reshare-prefix-solve-with-slacks-2
+    slice-relend-prefix-solve-with-slacks-2
     slice-aggregate-solve-with-slacks-2
     solve-with-slacks-requires
     (λ c. search needs)  -- same-length
     (λ c. search needs)  -- same-length-2
-    (λ c. search needs)  -- same-length-3
-    (λ c. search needs)  -- same-length-4
     returns)

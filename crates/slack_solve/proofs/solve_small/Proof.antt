@@ -7,14 +7,14 @@ use Rattle.slack_solve.proofs.solve_small.Tie as tie
 
 solve-in-requires : tie.Need-solve-in-requires
 solve-in-requires c κs =
-    let s = c .before .before .before in
-    let a = s .before .before .before .before .before .before .before .before .before .before .before .before .before .args in
-    let p = s .before .before .before .before .before .before .before .before .before .before .before .before .before .pre in
+    let s = c .before .before .before .before .before .before .before .before .before .before .before .before .before .before in
+    let a = s .args in
+    let p = s .pre in
     let v : a .n + a .r ≤ few + few = omega arith in
     let w : a .m + a .r ≤ Sizes.equalities + few = omega (arith, p .0 .equalities) in
     let square = area v v in
     let tall = area v w in
-    (p .0, p .1, p .2, omega arith, omega arith, omega arith, omega arith)
+    (p .0, p .1, p .2, omega arith, omega arith)
 
 pub solve-small-spec : {M : Type 1} → statement M
 solve-small-spec =
@@ -22,7 +22,5 @@ solve-small-spec =
     (tie.spec
     (λ c. search needs)  -- slice-aggregate-solve-in
     (λ c. search needs)  -- slice-aggregate-solve-in-2
-    (λ c. search needs)  -- slice-aggregate-solve-in-3
-    (λ c. search needs)  -- slice-aggregate-solve-in-4
     solve-in-requires
-    (λ c. c .before .before .before .before .solve-in .ensures))  -- returns
+    (λ c. c .before .before .solve-in .ensures))  -- returns

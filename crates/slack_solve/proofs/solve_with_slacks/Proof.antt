@@ -1,7 +1,6 @@
 use Rattle.folds.specs.Kit.{_+_, _≤_, sym, _∙_, arith, length}
 use lib.Seq.{length-take-le}
-use Rattle.folds.specs.Cell.{small-fits}
-use Rattle.folds.specs.Tab.{taken-over}
+use Rattle.folds.specs.Tab.{over-whole}
 use Rattle.units.specs.Laws.{length-unitsK, length-unitsE}
 use Rattle.active.specs.Laws.{answerOf-answer}
 use Rattle.slack_solve.specs.Laws.{with-slacks-from}
@@ -14,63 +13,45 @@ start c = c .before .before .before .before .before .before .before .before .bef
 abbrev columns-at : tie.After-slice-known4 → tie.After-column-scales
 columns-at c = c .before .before .before .before .before .before .before .before .before .before .before
 
-scales-hold : (c : tie.After-column-scales) → start c .args .n + start c .args .r ≤ length (c .before .scales-with-slacks .result)
+scales-hold : (c : tie.After-column-scales) → start c .args .n + start c .args .r ≤ length (c .before .before .scales-with-slacks .result)
 scales-hold c = omega (arith, start c .pre .0 .originals, start c .pre .0 .rows)
 
 columns-hold : (c : tie.After-column-scales) → start c .args .m + start c .args .r ≤ length (c .column-scales .result)
 columns-hold c = omega (arith, start c .pre .0 .equalities, start c .pre .0 .rows)
 
 slice-aggregate-units-k : tie.Need-slice-aggregate-units-k
-slice-aggregate-units-k c = sym (length-take-le _ _ (scales-hold (c .before)))
+slice-aggregate-units-k c = sym (length-take-le _ _ (scales-hold (c .before .before)))
 
 units-k-requires : tie.Need-units-k-requires
-units-k-requires c κs =
-    let p = start (c .before .before) .pre in
-    (omega (arith, p .0 .originals, p .0 .rows), p .2, omega (arith, slice-aggregate-units-k (c .before)), p .4)
+units-k-requires c κs = let p = start (c .before .before) .pre in (omega (arith, p .2), omega (arith, slice-aggregate-units-k c))
 
 slice-aggregate-units-e : tie.Need-slice-aggregate-units-e
-slice-aggregate-units-e c = sym (length-take-le _ _ (scales-hold (c .before .before .before .before .before .before)))
+slice-aggregate-units-e c = sym (length-take-le _ _ (scales-hold (c .before .before .before .before .before .before .before)))
 
 slice-aggregate-units-e-2 : tie.Need-slice-aggregate-units-e-2
-slice-aggregate-units-e-2 c = sym (length-take-le _ _ (columns-hold (c .before .before .before .before .before .before .before)))
+slice-aggregate-units-e-2 c = sym (length-take-le _ _ (columns-hold (c .before .before .before .before .before .before .before .before)))
 
 units-e-requires : tie.Need-units-e-requires
 units-e-requires c κs =
-    let p = start (c .before .before .before .before .before .before .before .before) .pre in (
-      omega (arith, p .0 .originals, p .0 .rows),
-      omega (arith, p .0 .equalities, p .0 .rows),
-      p .3,
-      omega (arith, slice-aggregate-units-e (c .before .before)),
-      omega (arith, slice-aggregate-units-e-2 (c .before)),
-      p .5,
-    )
-
-slice-reshare-prefix-solve-scaled : tie.Need-slice-reshare-prefix-solve-scaled
-slice-reshare-prefix-solve-scaled c = omega (arith, start (columns-at c) .pre .4)
+    let p = start (c .before .before .before .before .before .before .before .before) .pre in
+    (omega (arith, p .3), omega (arith, slice-aggregate-units-e (c .before)), omega (arith, slice-aggregate-units-e-2 c))
 
 slice-aggregate-solve-scaled : tie.Need-slice-aggregate-solve-scaled
-slice-aggregate-solve-scaled c = sym (length-take-le _ _ (slice-reshare-prefix-solve-scaled (c .before)))
-
-slice-reshare-prefix-solve-scaled-2 : tie.Need-slice-reshare-prefix-solve-scaled-2
-slice-reshare-prefix-solve-scaled-2 c = omega (arith, start (columns-at (c .before)) .pre .5)
+slice-aggregate-solve-scaled c = sym (length-take-le _ _ (scales-hold (columns-at (c .before .before .before))))
 
 slice-aggregate-solve-scaled-2 : tie.Need-slice-aggregate-solve-scaled-2
-slice-aggregate-solve-scaled-2 c = sym (length-take-le _ _ (slice-reshare-prefix-solve-scaled-2 (c .before)))
-
-slice-aggregate-solve-scaled-3 : tie.Need-slice-aggregate-solve-scaled-3
-slice-aggregate-solve-scaled-3 c = sym (length-take-le _ _ (scales-hold (columns-at (c .before .before .before))))
-
-slice-aggregate-solve-scaled-4 : tie.Need-slice-aggregate-solve-scaled-4
-slice-aggregate-solve-scaled-4 c = sym (length-take-le _ _ (columns-hold (columns-at (c .before .before .before .before))))
+slice-aggregate-solve-scaled-2 c = sym (length-take-le _ _ (columns-hold (columns-at (c .before .before .before .before))))
 
 solve-scaled-requires : tie.Need-solve-scaled-requires
-solve-scaled-requires c κs = (
-  start (columns-at (c .before .before .before .before)) .pre .0,
-  omega (arith, slice-aggregate-solve-scaled (c .before .before .before)),
-  omega (arith, slice-aggregate-solve-scaled-2 (c .before .before)),
-  omega (arith, slice-aggregate-solve-scaled-3 (c .before)),
-  omega (arith, slice-aggregate-solve-scaled-4 c),
-)
+solve-scaled-requires c κs =
+    let e = c .before .before .before .before in
+    let p = start (columns-at e) .pre in (
+      p .0,
+      omega (arith, p .2, e .before .before .before .before .before .before .before .before .units-k .kept .0),
+      omega (arith, p .3, e .before .before .units-e .kept .0),
+      omega (arith, slice-aggregate-solve-scaled (c .before)),
+      omega (arith, slice-aggregate-solve-scaled-2 c),
+    )
 
 slice-aggregate-original : tie.Need-slice-aggregate-original
 slice-aggregate-original c = sym (length-take-le _ _ (scales-hold (columns-at (c .before .before .before .before .before .before .before .before))))
@@ -100,9 +81,10 @@ returns : tie.Need-returns
 returns c =
     let e = c .before .before .before .before .before .before .before .before .before .before in
     let s = columns-at e in
-    with-slacks-from _ _ _ _ _ _ _ _ _ _ _ _ _ _ _ _ (s .before .scales-with-slacks .ensures) (s .column-scales .ensures)
-    (taken-over _ _ (length-unitsK _ _ _) (e .before .before .before .before .before .before .before .before .units-k .ensures))
-    (taken-over _ _ (length-unitsE _ _ _ _ _) (e .before .before .units-e .ensures))
+    let p = start s .pre in
+    with-slacks-from _ _ _ _ _ _ _ _ _ _ _ _ _ _ _ _ (s .before .before .scales-with-slacks .ensures) (s .column-scales .ensures)
+    (over-whole _ _ (length-unitsK _ _ _) (p .2) (e .before .before .before .before .before .before .before .before .units-k .ensures))
+    (over-whole _ _ (length-unitsE _ _ _ _ _) (p .3) (e .before .before .units-e .ensures))
     (sym (answerOf-answer _ _ _) ∙ c .before .before .before .before .before .solve-scaled .ensures)
     (c .original .ensures)
 
@@ -110,35 +92,27 @@ pub solve-with-slacks-spec : {M : Type 1} → statement M
 solve-with-slacks-spec =
     tie.close
     (tie.spec
-    (λ c. let p = c .before .before .before .before .before .before .before .before .before .before .before .before .before .before .before .pre .0 in
+    (λ c. let p = c .before .before .before .before .before .before .before .before .before .before .before .before .before .pre .0 in
     omega (arith, p .originals, p .rows))  -- add-v
-    (λ c. let p = c .before .before .before .before .before .before .before .before .before .before .before .before .before .before .before .pre .0 in
+    (λ c. let p = c .before .before .before .before .before .before .before .before .before .before .before .before .before .pre .0 in
     omega (arith, p .equalities, p .rows))  -- add-w
-    (λ c. let p = c .before .before .before .before .before .before .before .before .before .before .before .before .before .before .before .pre .0 in
-    small-fits (omega (arith, p .originals, p .rows)) (omega (arith, p .originals, p .rows)))  -- mul-square
-    (λ c. let p = c .before .before .before .before .before .before .before .before .before .before .before .before .before .before .before .pre .0 in
-    small-fits (omega (arith, p .originals, p .rows)) (omega (arith, p .equalities, p .rows)))  -- mul-entries
-    (λ c κs. let p = c .before .before .before .before .before .before .before .before .before .before .before .before .before .before .before .pre in
-    (p .0 .originals, p .0 .rows, p .2, p .0 .a-holds))  -- scales-with-slacks-requires
-    (λ c κs. let s = c .before in
-    let p = s .before .before .before .before .before .before .before .before .before .before .before .before .before .before .before .pre in
-    (omega (arith, p .0 .equalities, p .0 .rows), p .3))  -- column-scales-requires
-    scales-hold  -- array-share-prefix-scales
+    (λ c κs. let p = c .before .before .before .before .before .before .before .before .before .before .before .before .before .before .pre in
+    (p .0 .originals, p .0 .rows, omega (arith, p .2), p .0 .a-holds))  -- scales-with-slacks-requires
+    (λ c κs. let s = c .before .before in
+    let p = s .before .before .before .before .before .before .before .before .before .before .before .before .before .before .pre in
+    (omega (arith, p .0 .equalities, p .0 .rows), omega (arith, p .3)))  -- column-scales-requires
+    (λ c. scales-hold (c .before))  -- array-share-prefix-scales
     slice-aggregate-units-k
     units-k-requires
-    (λ c. scales-hold (c .before .before .before .before .before))  -- array-share-prefix-scales-2
+    (λ c. scales-hold (c .before .before .before .before .before .before))  -- array-share-prefix-scales-2
     slice-aggregate-units-e
-    (λ c. columns-hold (c .before .before .before .before .before .before))  -- array-share-prefix-columns
+    (λ c. columns-hold (c .before .before .before .before .before .before .before))  -- array-share-prefix-columns
     slice-aggregate-units-e-2
     units-e-requires
-    slice-reshare-prefix-solve-scaled
-    slice-aggregate-solve-scaled
-    slice-reshare-prefix-solve-scaled-2
-    slice-aggregate-solve-scaled-2
     (λ c. scales-hold (columns-at (c .before .before)))  -- array-share-prefix-scales-3
-    slice-aggregate-solve-scaled-3
+    slice-aggregate-solve-scaled
     (λ c. columns-hold (columns-at (c .before .before .before)))  -- array-share-prefix-columns-2
-    slice-aggregate-solve-scaled-4
+    slice-aggregate-solve-scaled-2
     solve-scaled-requires
     (λ c. scales-hold (columns-at (c .before .before .before .before .before .before .before)))  -- array-share-prefix-scales-4
     slice-aggregate-original
@@ -146,7 +120,7 @@ solve-with-slacks-spec =
     slice-aggregate-original-2
     original-requires
     (λ c. let e = c .before .before .before .before .before .before .before .before .before .before in
-    e .before .before .before .before .before .before .before .before .units-k .kept .1 .1 .1 .0)  -- same-length
+    e .before .before .before .before .before .before .before .before .units-k .kept .0)  -- same-length
     (λ c. let e = c .before .before .before .before .before .before .before .before .before .before in
-    e .before .before .units-e .kept .1 .1 .1 .1 .1 .0)  -- same-length-2
+    e .before .before .units-e .kept .0)  -- same-length-2
     returns)

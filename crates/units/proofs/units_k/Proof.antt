@@ -1,7 +1,6 @@
-use Rattle.folds.specs.Kit.{_∙_, needs}
-use Rattle.vector.specs.Laws.{length-copy}
+use Rattle.folds.specs.Kit.{needs}
 use Rattle.matrix.specs.Laws.{length-rowsDivided}
-use Rattle.matrix.specs.InPlace.{rows-divided, columns-divided, rowsDivided-copy}
+use Rattle.matrix.specs.InPlace.{columns-divided}
 use Rattle.units.specs.Units.{unitsK}
 use Rattle.units.proofs.units_k.Statement.{statement}
 use Rattle.units.proofs.units_k.Tie as tie
@@ -11,13 +10,9 @@ unfolding unitsK
 units-k-spec =
     tie.close
     (tie.spec
-    (λ c. search needs)  -- mul-copy
-    (λ c κs. search needs)  -- copy-requires
     (λ c κs. search needs)  -- divide-rows-requires
     (λ c κs. search needs)  -- divide-columns-requires
     (λ c. search needs)  -- same-length
     (λ c. let p = c .before .before in
-    let q = p .before .before .before .before in
-    columns-divided _ _ _ _ _ (length-rowsDivided _ _ _ _)
-    (rows-divided _ _ _ _ _ (length-copy _ _) (q .before .before .before .before .copy .ensures) (q .divide-rows .ensures) ∙ rw rowsDivided-copy)
+    columns-divided _ _ _ _ _ (length-rowsDivided _ _ _ _) (p .before .before .before .before .divide-rows .ensures)
     (p .divide-columns .ensures)))  -- returns
