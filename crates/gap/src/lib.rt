@@ -7,19 +7,24 @@ use exact::time_at;
 use format::Block;
 use format::Pairs;
 use format::Span;
+use format::Tempo;
 use format::Word;
 ghost use mathlib.Core.Path.{_≡_};
-ghost use Prim.Native.Nat.{_+_, _≤_, _<_};
+ghost use Prim.Native.Nat.{_≤_};
+ghost use lib.ListN.{length};
 ghost use lib.IntN.{_*ℤ_};
 ghost use Rattle.ints.specs.Bound.{_≼_};
 ghost use Rattle.ints.specs.Diff.{minℤ, maxℤ};
-ghost use Rattle.ints.specs.Sum.{Σ};
-ghost use Rattle.block.specs.Gap.{price, g, coefOf, line, candidates, least, wordGap, wordGapOf, wordGaps, values, ends, gap};
-ghost use Rattle.block.specs.Ranges.{Ranged, RangedWord};
-ghost use Rattle.format.specs.Structs.{Filled, Sound, listOf, wordOf, blockOf};
+ghost use Rattle.block.specs.Gap.{coefOf, slopeOf, g, anchorPart, spanPart, line, candidates, least, wordGap, wordGaps, values, ends, gap};
+ghost use Rattle.block.specs.Ranges.{maxWords, Short, RangedWord, RangedTempo, Ranged, Timed};
+ghost use Rattle.format.specs.Structs.{Filled, Sound, listOf, wordOf, tempoOf, blockOf};
 ghost use Rattle.exact.specs.Planned.{Planned};
-ghost use Rattle.gap.specs.Prices.{anchorPrices, spanPrices, pricesWith, pricesFrom, pricedList};
+ghost use Rattle.gap.specs.Prices.{anchorPrices, spanPrices, pricesWith, pricesFrom};
 ghost use Rattle.gap.specs.Input.{PriceList, GapInput, PlanAndPrices};
+ghost use Rattle.gap.specs.Words.{Within, Each, Added};
+
+// A number for each word. A call's result gets into one by way of `next`: laid there at once, it isn't covered.
+type PerWord = [i64; format::MAX_WORDS];
 
 fn smaller(a: i64, b: i64) -> i64
     ensures { λ r. ⌜ r ≡ minℤ a b ⌝ }
@@ -58,50 +63,86 @@ fn least(w: Word, h: i64, cap: u64) -> i64
     ends
 }
 
-// Half the slope of the square part at word i.
-fn half_slope(b: Block, times: &[i32], i: usize) -> i64
-    requires { ⌜ Planned b (now times) ⌝ }
-    ensures { λ r. ⌜ r ≡ g (blockOf b) (now (times .entry)) i ⌝ }
+// Tempo t's part of each word's half slope, added to the word's sum.
+fn add_slopes(start: PerWord, t: Tempo, times: &[i32]) -> PerWord
+    requires { ⌜ Filled (t .list) ⌝ }
+    requires { ⌜ RangedTempo (length (now times)) (tempoOf t) ⌝ }
+    requires { ⌜ Timed (length (now times)) (now times) ⌝ }
+    requires { ⌜ (length (now times) ≤ maxWords) × Within (length (now times)) start 2199023255552 ⌝ }
+    ensures { λ r. ⌜ Added (length (now (times .entry))) start (slopeOf (tempoOf t) (now (times .entry))) r ⌝ }
 {
-    let mut sum: i64 = 0;
+    let mut sums = start;
+    let n = times.len();
+    for i in 0..n {
+        sums[i] += slope_of(t, times, i);
+    }
+    sums
+}
+
+// Half the slope of the square part at each word.
+fn half_slopes(b: Block, times: &[i32]) -> PerWord
+    requires { ⌜ Planned b (now times) ⌝ }
+    ensures { λ r. ⌜ Each (b .words) (g (blockOf b) (now (times .entry))) r ⌝ }
+{
+    let mut sums = [0i64; format::MAX_WORDS];
     let n = b.tempos;
     for j in 0..n {
         let t = b.tempo[j];
-        sum += slope_of(t, times, i);
+        let next = add_slopes(sums, t, times);
+        sums = next;
     }
-    sum
+    sums
 }
 
-// The list that price k belongs to: an anchor's, then a span's.
-fn priced_list(b: Block, k: usize) -> Pairs
-    requires { ⌜ Sound b ⌝ }
-    requires { ⌜ k < b .anchors + b .spans ⌝ }
-    ensures { λ l. ⌜ (listOf l ≡ pricedList (blockOf b) k) × Filled l ⌝ }
+// Price × coefficient in the price's list, added to the sum of each of the n words.
+fn add_price(start: PerWord, p: i64, l: Pairs, n: usize) -> PerWord
+    requires { ⌜ Filled l ⌝ }
+    requires { ⌜ Short (listOf l) ⌝ }
+    requires { ⌜ (p ≼ 4294967296) × (n ≤ maxWords) × Within n start 5497558138880 ⌝ }
+    ensures { λ r. ⌜ Added n start (λ i. p *ℤ coefOf i (listOf l)) r ⌝ }
 {
+    let mut sums = start;
+    for i in 0..n {
+        sums[i] += p * coef_of(i, l);
+    }
+    sums
+}
+
+// Each anchor's price × coefficient, added to each word's sum.
+fn add_anchors(start: PerWord, b: Block, prices: &[i64]) -> PerWord
+    requires { ⌜ PriceList b (now prices) ⌝ }
+    requires { ⌜ Within (b .words) start 2199023255552 ⌝ }
+    ensures { λ r. ⌜ Added (b .words) start (anchorPart (blockOf b) (anchorPrices (blockOf b) (now (prices .entry)))) r ⌝ }
+{
+    let mut sums = start;
+    let words = b.words;
     let n = b.anchors;
-    if k < n {
+    for k in 0..n {
         let a = b.anchor[k];
         let l = a.list;
-        return l;
+        let next = add_price(sums, prices[k], l, words);
+        sums = next;
     }
-    let j = k - n;
-    let s = b.span[j];
-    let l = s.list;
-    l
+    sums
 }
 
-// Each anchor or span price × coefficient of word i, added up.
-fn price_part(b: Block, prices: &[i64], i: usize) -> i64
+// The same for each span: its price stands after the anchors'.
+fn add_spans(start: PerWord, b: Block, prices: &[i64]) -> PerWord
     requires { ⌜ PriceList b (now prices) ⌝ }
-    ensures { λ r. ⌜ r ≡ Σ (b .anchors + b .spans) (λ k. price (now (prices .entry)) k *ℤ coefOf i (pricedList (blockOf b) k)) ⌝ }
+    requires { ⌜ Within (b .words) start 3298534883328 ⌝ }
+    ensures { λ r. ⌜ Added (b .words) start (spanPart (blockOf b) (spanPrices (blockOf b) (now (prices .entry)))) r ⌝ }
 {
-    let mut sum: i64 = 0;
-    let n = b.anchors + b.spans;
+    let mut sums = start;
+    let words = b.words;
+    let a = b.anchors;
+    let n = b.spans;
     for k in 0..n {
-        let l = priced_list(b, k);
-        sum += prices[k] * coef_of(i, l);
+        let s = b.span[k];
+        let l = s.list;
+        let next = add_price(sums, prices[a + k], l, words);
+        sums = next;
     }
-    sum
+    sums
 }
 
 // g × time + slope × |time - key| - the least
@@ -113,27 +154,18 @@ fn word_gap(w: Word, g: i64, h: i64, cap: u64, x: i64) -> i64
     g * x + bend(w, x) - least(w, h, cap)
 }
 
-// Word i's part of the gap.
-fn word_gap_of(b: Block, times: &[i32], prices: &[i64], cap: u64, i: usize) -> i64
-    requires { ⌜ GapInput b (now times) (now prices) cap ⌝ }
-    requires { ⌜ i < b .words ⌝ }
-    ensures { λ r. ⌜ r ≡ wordGapOf (blockOf b) (now (times .entry)) (pricesWith (blockOf b) (now (prices .entry)) cap) i ⌝ }
-{
-    let w = b.word[i];
-    let g = half_slope(b, times, i);
-    let h = g + price_part(b, prices, i);
-    word_gap(w, g, h, cap, time_at(times, i))
-}
-
-// The words' parts, added up.
+// The words' parts, added up. Half slopes and h's are made for all words at once: no call for one word takes the block.
 fn word_gaps(b: Block, times: &[i32], prices: &[i64], cap: u64) -> i64
     requires { ⌜ GapInput b (now times) (now prices) cap ⌝ }
     ensures { λ r. ⌜ r ≡ wordGaps (blockOf b) (now (times .entry)) (pricesWith (blockOf b) (now (prices .entry)) cap) ⌝ }
 {
+    let g = half_slopes(b, times);
+    let h = add_spans(add_anchors(g, b, prices), b, prices);
     let mut sum: i64 = 0;
     let n = b.words;
     for i in 0..n {
-        sum += word_gap_of(b, times, prices, cap, i);
+        let w = b.word[i];
+        sum += word_gap(w, g[i], h[i], cap, time_at(times, i));
     }
     sum
 }
