@@ -4,7 +4,7 @@ ghost use mathlib.Core.Path.{_≡_};
 ghost use mathlib.Core.Bool.{true, false};
 ghost use Prim.Native.Nat.{_≤_, _*_};
 ghost use lib.ListN.{length, take};
-ghost use Rattle.folds.specs.Fold.{out};
+ghost use Rattle.folds.specs.Fold.{pick, out};
 ghost use Rattle.sizes.specs.Sizes as Sizes;
 ghost use Rattle.vector.specs.Vector as Vector;
 ghost use Rattle.matrix.specs.Matrix as Matrix;
@@ -13,11 +13,6 @@ ghost use Rattle.scaled.specs.System.{Sized, system};
 ghost use Rattle.factored.specs.Room.{Ranged};
 ghost use Rattle.factored.specs.Factored as Definition;
 use scaled::Rounding;
-
-struct Solution {
-    x: [f64; sizes::VARIABLES],
-    multipliers: [f64; sizes::COLUMNS],
-}
 
 // Whether there is a solution, x and the multipliers.
 pub struct Found {
@@ -71,18 +66,16 @@ fn factor_gram(w: &[f64], n: usize, m: usize, g: &mut [f64]) -> bool
     factoring::definite(g, m)
 }
 
-// h = L⁻¹c
-fn lower(l: &[f64], n: usize, c: &[f64]) -> [f64; sizes::VARIABLES]
-    requires { ⌜ (n ≤ Sizes.originals) × (n * n ≤ length (now l)) × (Triangular.regular (now l) n ≡ true) × (n ≤ length (now c)) ⌝ }
-    ensures { λ r. ⌜ out true (take n r) ≡ Triangular.solveLower (now (l .entry)) n (Vector.copy n (now (c .entry))) ⌝ }
+// h = L⁻¹c, over the start of y
+fn lower(l: &[f64], n: usize, c: &[f64], y: &mut [f64])
+    requires { ⌜ (n * n ≤ length (now l)) × (Triangular.regular (now l) n ≡ true) × (n ≤ length (now c)) × (n ≤ length (now y)) ⌝ }
+    ensures { λ _. ⌜ out true (take n (now (y .exit))) ≡ Triangular.solveLower (now (l .entry)) n (Vector.copy n (now (c .entry))) ⌝ }
 {
-    let mut y = [0.0; sizes::VARIABLES];
-    vector::copy(c, n, &mut y);
+    vector::copy(c, n, y);
     triangular::solve_lower_triangular(l, n, &mut y[..n]);
-    y
 }
 
-// The multipliers times the lengths: the solution λ of WᵀWλ = Wᵀh − b over the lengths.
+// The multipliers times the lengths, over the start of y: the solution λ of WᵀWλ = Wᵀh − b over the lengths.
 fn scaled_multipliers(
     w: &[f64],
     by: &[f64],
@@ -91,59 +84,46 @@ fn scaled_multipliers(
     m: usize,
     h: &[f64],
     b: &[f64],
-) -> [f64; sizes::VARIABLES]
+    y: &mut [f64],
+)
     requires { ⌜ (m ≤ Sizes.columns)
         × (n * m ≤ length (now w))
         × (m ≤ length (now by))
         × (m * m ≤ length (now g))
         × (n ≤ length (now h))
-        × (m ≤ length (now b)) ⌝ }
-    ensures { λ r. ⌜ take m r
+        × (m ≤ length (now b))
+        × (m ≤ length (now y)) ⌝ }
+    ensures { λ _. ⌜ take m (now (y .exit))
         ≡ Triangular.solve (now (g .entry)) m
         (Vector.sub m (Matrix.trMulVec n m (now (w .entry)) (now (h .entry))) (Vector.div m (now (b .entry)) (now (by .entry)))) ⌝ }
 {
-    let wh = dense::tr_mul_vec(w, n, m, h);
-    let bl = dense::div(b, by, m);
-    let mut y = dense::sub(&wh[..m], &bl[..m], m);
+    let mut bl = [0.0; sizes::COLUMNS];
+    matrix::tr_mul_vec(w, n, m, h, y);
+    vector::div(b, by, m, &mut bl);
+    vector::sub_from(y, m, &bl[..m]);
     triangular::solve(g, m, &mut y[..m]);
-    y
 }
 
-// x = L⁻ᵀ(h − Wλ)
-fn upper(
-    l: &[f64],
-    w: &[f64],
-    n: usize,
-    m: usize,
-    h: &[f64],
-    scaled: &[f64],
-) -> [f64; sizes::VARIABLES]
+// x = L⁻ᵀ(h − Wλ), over the start of y
+fn upper(l: &[f64], w: &[f64], n: usize, m: usize, h: &[f64], scaled: &[f64], y: &mut [f64])
     requires { ⌜ (n ≤ Sizes.originals)
         × (n * n ≤ length (now l))
         × (Triangular.regular (now l) n ≡ true)
         × (n * m ≤ length (now w))
         × (n ≤ length (now h))
-        × (m ≤ length (now scaled)) ⌝ }
-    ensures { λ r. ⌜ out true (take n r)
+        × (m ≤ length (now scaled))
+        × (n ≤ length (now y)) ⌝ }
+    ensures { λ _. ⌜ out true (take n (now (y .exit)))
         ≡ Triangular.trSolveLower (now (l .entry)) n
         (Vector.sub n (now (h .entry)) (Matrix.mulVec n m (now (w .entry)) (now (scaled .entry)))) ⌝ }
 {
-    let ws = dense::mul_vec(w, n, m, scaled);
-    let mut y = dense::sub(h, &ws[..n], n);
+    let mut ws = [0.0; sizes::ORIGINALS];
+    matrix::mul_vec(w, n, m, scaled, &mut ws);
+    vector::sub(h, &ws[..n], n, y);
     triangular::tr_solve_lower_triangular(l, n, &mut y[..n]);
-    y
 }
 
-fn multipliers(scaled: &[f64], by: &[f64], m: usize) -> [f64; sizes::COLUMNS]
-    requires { ⌜ (m ≤ Sizes.columns) × (m ≤ length (now scaled)) × (m ≤ length (now by)) ⌝ }
-    ensures { λ r. ⌜ take m r ≡ Vector.div m (now (scaled .entry)) (now (by .entry)) ⌝ }
-{
-    let mut y = [0.0; sizes::COLUMNS];
-    vector::div(scaled, by, m, &mut y);
-    y
-}
-
-// The closure `solve`.
+// The closure `solve`, its answer over the starts of x and multipliers.
 fn solve(
     l: &[f64],
     w: &[f64],
@@ -153,22 +133,26 @@ fn solve(
     m: usize,
     c: &[f64],
     b: &[f64],
-) -> Solution
-    requires { ⌜ Ranged n m (now l) (now w) (now by) (now g) × (n ≤ length (now c)) × (m ≤ length (now b)) ⌝ }
-    ensures { λ r. ⌜ Definition.some (take n (r .x)) (take m (r .multipliers))
+    x: &mut [f64],
+    multipliers: &mut [f64],
+)
+    requires { ⌜ Ranged n m (now l) (now w) (now by) (now g)
+        × (n ≤ length (now c))
+        × (m ≤ length (now b))
+        × (n ≤ length (now x))
+        × (m ≤ length (now multipliers)) ⌝ }
+    ensures { λ _. ⌜ Definition.some (take n (now (x .exit))) (take m (now (multipliers .exit)))
         ≡ Definition.solveOnce (now (l .entry)) (now (w .entry)) (now (by .entry)) (now (g .entry)) n m (now (c .entry)) (now (b .entry)) ⌝ }
 {
-    let h = lower(l, n, c);
-    let scaled = scaled_multipliers(w, by, g, n, m, &h[..n], b);
-    let x = upper(l, w, n, m, &h[..n], &scaled[..m]);
-    let multipliers = multipliers(&scaled[..m], by, m);
-    Solution {
-        x: x,
-        multipliers: multipliers,
-    }
+    let mut h = [0.0; sizes::ORIGINALS];
+    let mut scaled = [0.0; sizes::COLUMNS];
+    lower(l, n, c, &mut h);
+    scaled_multipliers(w, by, g, n, m, &h[..n], b, &mut scaled);
+    upper(l, w, n, m, &h[..n], &scaled[..m], x);
+    vector::div(&scaled[..m], by, m, multipliers);
 }
 
-// c − Kx − Eλ
+// c − Kx − Eλ, over the start of y
 fn left_of_c(
     k: &[f64],
     c: &[f64],
@@ -177,41 +161,40 @@ fn left_of_c(
     m: usize,
     x: &[f64],
     multipliers: &[f64],
-) -> [f64; sizes::VARIABLES]
+    y: &mut [f64],
+)
     requires { ⌜ (n ≤ Sizes.originals)
         × (n * n ≤ length (now k))
         × (n ≤ length (now c))
         × (n * m ≤ length (now e))
         × (n ≤ length (now x))
-        × (m ≤ length (now multipliers)) ⌝ }
-    ensures { λ r. ⌜ take n r
+        × (m ≤ length (now multipliers))
+        × (n ≤ length (now y)) ⌝ }
+    ensures { λ _. ⌜ take n (now (y .exit))
         ≡ Definition.leftOfC n m (now (k .entry)) (now (c .entry)) (now (e .entry)) (now (x .entry)) (now (multipliers .entry)) ⌝ }
 {
-    let kx = dense::mul_vec(k, n, n, x);
-    let em = dense::mul_vec(e, n, m, multipliers);
-    let left = dense::sub(c, &kx[..n], n);
-    dense::sub(&left[..n], &em[..n], n)
+    let mut product = [0.0; sizes::ORIGINALS];
+    matrix::mul_vec(k, n, n, x, &mut product);
+    vector::sub(c, &product[..n], n, y);
+    matrix::mul_vec(e, n, m, multipliers, &mut product);
+    vector::sub_from(y, n, &product[..n]);
 }
 
-// b − Eᵀx
-fn left_of_b(e: &[f64], b: &[f64], n: usize, m: usize, x: &[f64]) -> [f64; sizes::VARIABLES]
-    requires { ⌜ (m ≤ Sizes.columns) × (n * m ≤ length (now e)) × (m ≤ length (now b)) × (n ≤ length (now x)) ⌝ }
-    ensures { λ r. ⌜ take m r ≡ Definition.leftOfB n m (now (e .entry)) (now (b .entry)) (now (x .entry)) ⌝ }
+// b − Eᵀx, over the start of y
+fn left_of_b(e: &[f64], b: &[f64], n: usize, m: usize, x: &[f64], y: &mut [f64])
+    requires { ⌜ (m ≤ Sizes.columns)
+        × (n * m ≤ length (now e))
+        × (m ≤ length (now b))
+        × (n ≤ length (now x))
+        × (m ≤ length (now y)) ⌝ }
+    ensures { λ _. ⌜ take m (now (y .exit)) ≡ Definition.leftOfB n m (now (e .entry)) (now (b .entry)) (now (x .entry)) ⌝ }
 {
-    let ex = dense::tr_mul_vec(e, n, m, x);
-    dense::sub(b, &ex[..m], m)
+    let mut ex = [0.0; sizes::COLUMNS];
+    matrix::tr_mul_vec(e, n, m, x, &mut ex);
+    vector::sub(b, &ex[..m], m, y);
 }
 
-fn added(a: &[f64], b: &[f64], m: usize) -> [f64; sizes::COLUMNS]
-    requires { ⌜ (m ≤ Sizes.columns) × (m ≤ length (now a)) × (m ≤ length (now b)) ⌝ }
-    ensures { λ r. ⌜ take m r ≡ Vector.add m (now (a .entry)) (now (b .entry)) ⌝ }
-{
-    let mut y = [0.0; sizes::COLUMNS];
-    vector::add(a, b, m, &mut y);
-    y
-}
-
-// The first solution with what `solve` finds for what it leaves.
+// The first solution with what `solve` finds for what it leaves, over the starts of x and multipliers.
 fn refine(
     l: &[f64],
     w: &[f64],
@@ -223,29 +206,34 @@ fn refine(
     b: &[f64],
     n: usize,
     m: usize,
-    x: [f64; sizes::VARIABLES],
-    multipliers: [f64; sizes::COLUMNS],
-) -> Solution
-    requires { ⌜ Ranged n m (now l) (now w) (now by) (now g) × Sized n m (now k) (now c) (now e) (now b) ⌝ }
-    ensures { λ r. ⌜ Definition.some (take n (r .x)) (take m (r .multipliers))
+    x0: &[f64],
+    multipliers0: &[f64],
+    x: &mut [f64],
+    multipliers: &mut [f64],
+)
+    requires { ⌜ Ranged n m (now l) (now w) (now by) (now g)
+        × Sized n m (now k) (now c) (now e) (now b)
+        × (n ≤ length (now x0))
+        × (m ≤ length (now multipliers0))
+        × (n ≤ length (now x))
+        × (m ≤ length (now multipliers)) ⌝ }
+    ensures { λ _. ⌜ Definition.some (take n (now (x .exit))) (take m (now (multipliers .exit)))
         ≡ Definition.refine (now (l .entry)) (now (w .entry)) (now (by .entry)) (now (g .entry))
         (system n m (now (k .entry)) (now (c .entry)) (now (e .entry)) (now (b .entry)))
-        (Definition.some (take n x) (take m multipliers)) ⌝ }
+        (Definition.some (now (x0 .entry)) (now (multipliers0 .entry))) ⌝ }
 {
-    let left_c = left_of_c(k, c, e, n, m, &x[..n], &multipliers[..m]);
-    let left_b = left_of_b(e, b, n, m, &x[..n]);
-    let step = solve(l, w, by, g, n, m, &left_c[..n], &left_b[..m]);
-    let dx = step.x;
-    let dm = step.multipliers;
-    let moved = dense::add(&x[..n], &dx[..n], n);
-    let changed = added(&multipliers[..m], &dm[..m], m);
-    Solution {
-        x: moved,
-        multipliers: changed,
-    }
+    let mut dc = [0.0; sizes::ORIGINALS];
+    let mut db = [0.0; sizes::COLUMNS];
+    let mut dx = [0.0; sizes::ORIGINALS];
+    let mut dm = [0.0; sizes::COLUMNS];
+    left_of_c(k, c, e, n, m, x0, multipliers0, &mut dc);
+    left_of_b(e, b, n, m, x0, &mut db);
+    solve(l, w, by, g, n, m, &dc[..n], &db[..m], &mut dx, &mut dm);
+    vector::add(x0, &dx[..n], n, x);
+    vector::add(multipliers0, &dm[..m], m, multipliers);
 }
 
-// x and the multipliers if they solve the system to within rounding.
+// Whether x and the multipliers solve the system to within rounding.
 fn judged(
     k: &[f64],
     c: &[f64],
@@ -254,23 +242,19 @@ fn judged(
     n: usize,
     m: usize,
     noise: f64,
-    x: [f64; sizes::VARIABLES],
-    multipliers: [f64; sizes::COLUMNS],
-) -> Found
-    requires { ⌜ Sized n m (now k) (now c) (now e) (now b) ⌝ }
-    ensures { λ r. ⌜ Definition.foundOf n m r
+    x: &[f64],
+    multipliers: &[f64],
+) -> bool
+    requires { ⌜ Sized n m (now k) (now c) (now e) (now b) × (n ≤ length (now x)) × (m ≤ length (now multipliers)) ⌝ }
+    ensures { λ r. ⌜ pick r (Definition.some (now (x .entry)) (now (multipliers .entry))) Definition.none
         ≡ Definition.judged (system n m (now (k .entry)) (now (c .entry)) (now (e .entry)) (now (b .entry))) noise
-        (Definition.some (take n x) (take m multipliers)) ⌝ }
+        (Definition.some (now (x .entry)) (now (multipliers .entry))) ⌝ }
 {
-    let residual = scaled::kkt_residual(k, c, e, b, &x[..n], &multipliers[..m], n, m, noise);
+    let residual = scaled::kkt_residual(k, c, e, b, x, multipliers, n, m, noise);
     match scaled::within_rounding(residual) {
-        Rounding::Within => Found {
-            found: true,
-            x: x,
-            multipliers: multipliers,
-        },
-        Rounding::Outside => none(),
-        Rounding::Overflowed => none(),
+        Rounding::Within => true,
+        Rounding::Outside => false,
+        Rounding::Overflowed => false,
     }
 }
 
@@ -294,13 +278,33 @@ fn solve_over(
         (Definition.refined (now (l .entry)) (now (w .entry)) (now (by .entry)) (now (g .entry))
         (system n m (now (k .entry)) (now (c .entry)) (now (e .entry)) (now (b .entry)))) ⌝ }
 {
-    let first = solve(l, w, by, g, n, m, c, b);
-    let x0 = first.x;
-    let multipliers0 = first.multipliers;
-    let second = refine(l, w, by, g, k, c, e, b, n, m, x0, multipliers0);
-    let x = second.x;
-    let multipliers = second.multipliers;
-    judged(k, c, e, b, n, m, noise, x, multipliers)
+    let mut x0 = [0.0; sizes::ORIGINALS];
+    let mut multipliers0 = [0.0; sizes::COLUMNS];
+    let mut x = [0.0; sizes::VARIABLES];
+    let mut multipliers = [0.0; sizes::COLUMNS];
+    solve(l, w, by, g, n, m, c, b, &mut x0, &mut multipliers0);
+    refine(
+        l,
+        w,
+        by,
+        g,
+        k,
+        c,
+        e,
+        b,
+        n,
+        m,
+        &x0[..n],
+        &multipliers0[..m],
+        &mut x,
+        &mut multipliers,
+    );
+    let found = judged(k, c, e, b, n, m, noise, &x[..n], &multipliers[..m]);
+    Found {
+        found: found,
+        x: x,
+        multipliers: multipliers,
+    }
 }
 
 // The solve with room for W and WᵀW, and no more.

@@ -46,10 +46,13 @@ fn stationarity(
     ensures { λ r. ⌜ r
         ≡ Definition.stationarity n m (now (k .entry)) (now (c .entry)) (now (e .entry)) (now (x .entry)) (now (multipliers .entry)) ⌝ }
 {
-    let kx = dense::mul_vec(k, n, n, x);
-    let el = dense::mul_vec(e, n, m, multipliers);
-    let sum = dense::add(&kx[..n], &el[..n], n);
-    let left = dense::sub(&sum[..n], c, n);
+    let mut kx = [0.0; sizes::ORIGINALS];
+    let mut el = [0.0; sizes::ORIGINALS];
+    let mut left = [0.0; sizes::ORIGINALS];
+    matrix::mul_vec(k, n, n, x, &mut kx);
+    matrix::mul_vec(e, n, m, multipliers, &mut el);
+    vector::add(&kx[..n], &el[..n], n, &mut left);
+    vector::sub_from(&mut left, n, c);
     vector::scaled_norm(&left[..n], n)
 }
 
@@ -58,8 +61,9 @@ fn feasibility(e: &[f64], b: &[f64], x: &[f64], n: usize, m: usize) -> f64
     requires { ⌜ (m ≤ Sizes.columns) × (n * m ≤ length (now e)) × (m ≤ length (now b)) × (n ≤ length (now x)) ⌝ }
     ensures { λ r. ⌜ r ≡ Definition.feasibility n m (now (e .entry)) (now (b .entry)) (now (x .entry)) ⌝ }
 {
-    let ex = dense::tr_mul_vec(e, n, m, x);
-    let left = dense::sub(&ex[..m], b, m);
+    let mut left = [0.0; sizes::COLUMNS];
+    matrix::tr_mul_vec(e, n, m, x, &mut left);
+    vector::sub_from(&mut left, m, b);
     vector::scaled_norm(&left[..m], m)
 }
 

@@ -1,70 +1,55 @@
-use Rattle.folds.specs.Kit.{sym, arith, length, needs}
+use Rattle.folds.specs.Kit.{sym, arith, needs}
 use lib.Seq.{length-take-le}
+use Rattle.folds.specs.Tab.{taken-over}
+use Rattle.vector.specs.Laws.{length-add}
+use Rattle.matrix.specs.Laws.{length-mulVec}
 use Rattle.scaled.specs.Scaled.{stationarity}
+use Rattle.scaled.specs.Laws.{taken-less}
 use Rattle.scaled.proofs.stationarity.Statement.{statement}
 use Rattle.scaled.proofs.stationarity.Tie as tie
-
-mul-vec-requires : tie.Need-mul-vec-requires
-mul-vec-requires c κs = search needs
-
-mul-vec-requires-2 : tie.Need-mul-vec-requires-2
-mul-vec-requires-2 c κs = search needs
-
-array-share-prefix-kx : tie.Need-array-share-prefix-kx
-array-share-prefix-kx c = search needs
 
 slice-aggregate-add : tie.Need-slice-aggregate-add
 slice-aggregate-add c = sym (length-take-le _ _ (omega arith))
 
-array-share-prefix-el : tie.Need-array-share-prefix-el
-array-share-prefix-el c = search needs
-
 slice-aggregate-add-2 : tie.Need-slice-aggregate-add-2
 slice-aggregate-add-2 c = sym (length-take-le _ _ (omega arith))
-
-add-requires : tie.Need-add-requires
-add-requires c κs = (omega arith, omega (arith, slice-aggregate-add (c .before)), omega (arith, slice-aggregate-add-2 c))
-
-array-share-prefix-sum : tie.Need-array-share-prefix-sum
-array-share-prefix-sum c = search needs
-
-slice-aggregate-sub : tie.Need-slice-aggregate-sub
-slice-aggregate-sub c = sym (length-take-le _ _ (omega arith))
-
-sub-requires : tie.Need-sub-requires
-sub-requires c κs = (omega arith, omega (arith, slice-aggregate-sub c), omega arith)
-
-array-share-prefix-left : tie.Need-array-share-prefix-left
-array-share-prefix-left c = search needs
 
 slice-aggregate-scaled-norm : tie.Need-slice-aggregate-scaled-norm
 slice-aggregate-scaled-norm c = sym (length-take-le _ _ (omega arith))
 
-scaled-norm-requires : tie.Need-scaled-norm-requires
-scaled-norm-requires c κs = omega (arith, slice-aggregate-scaled-norm c)
+add-requires : tie.Need-add-requires
+add-requires c κs = let p = c .before in (omega (arith, slice-aggregate-add (p .before)), omega (arith, slice-aggregate-add-2 p), omega arith)
 
 returns : tie.Need-returns
 unfolding stationarity
 returns c =
-    let s = c .before .before .before .before in
-    let k = s .before .before .before .before in
-    rw (c .scaled-norm .ensures, c .before .before .sub .ensures, s .add .ensures, s .before .before .before .mul-vec2 .ensures, k .mul-vec .ensures)
+    let s = c .before .before .before in
+    let a = s .before .before .before in
+    let e = a .before .before .before .before .before in
+    rw (
+      c .scaled-norm .ensures,
+      taken-less _ _ _ _ (length-add _ _ _) (a .add .ensures) (s .sub-from .ensures),
+      taken-over _ _ (length-mulVec _ _ _ _) (e .before .before .before .mul-vec .ensures),
+      taken-over _ _ (length-mulVec _ _ _ _) (e .mul-vec2 .ensures),
+    )
 
 pub stationarity-spec : {M : Type 1} → statement M
 stationarity-spec =
     tie.close
     (tie.spec
-    mul-vec-requires
-    mul-vec-requires-2
-    array-share-prefix-kx
+    (λ c. search needs)  -- slice-aggregate-mul-vec
+    (λ c κs. search needs)  -- mul-vec-requires
+    (λ c. search needs)  -- slice-aggregate-mul-vec-2
+    (λ c κs. search needs)  -- mul-vec-requires-2
+    (λ c. search needs)  -- array-share-prefix-kx
     slice-aggregate-add
-    array-share-prefix-el
+    (λ c. search needs)  -- array-share-prefix-el
     slice-aggregate-add-2
+    (λ c. search needs)  -- slice-aggregate-add-3
     add-requires
-    array-share-prefix-sum
-    slice-aggregate-sub
-    sub-requires
-    array-share-prefix-left
+    (λ c. search needs)  -- slice-aggregate-sub-from
+    (λ c κs. search needs)  -- sub-from-requires
+    (λ c. search needs)  -- array-share-prefix-left
     slice-aggregate-scaled-norm
-    scaled-norm-requires
+    (λ c κs. omega (arith, slice-aggregate-scaled-norm c))  -- scaled-norm-requires
     returns)
