@@ -66,11 +66,13 @@ fn free_everything(
     let state = board.state;
     let freed = segments::free_all(state, segments, fixed, n);
     board.state = freed;
-    let mut next = iterate;
-    next.board = board;
-    next.freed = true;
-    next.freed_at = x;
-    next
+    let released = iterate.released;
+    Iterate {
+        board: board,
+        released: released,
+        freed: true,
+        freed_at: x,
+    }
 }
 
 // With no free original every variable is freed at once, unless that was done before at the same point.
