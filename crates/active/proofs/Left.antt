@@ -9,8 +9,7 @@ use Rattle.folds.specs.Run.{more, run, run-all, run-more, run-done, run-spent}
 use Rattle.segments.specs.declared.Segments.{Segments}
 use Rattle.iterate.specs.Problem.{Problem, problem, Room}
 use Rattle.iterate.specs.declared.Iterate.{Iterate}
-use Rattle.factoring.specs.declared.Factoring.{Factoring}
-use Rattle.factoring.specs.Kept.{new}
+use Rattle.factoring.specs.Kept.{Kept, new, keptOf}
 use Rattle.pass.specs.declared.Made.{Made}
 use Rattle.pass.specs.State.{State, state, madeOf, made-beside}
 use Rattle.pass.specs.Pass.{pass}
@@ -28,7 +27,7 @@ module _ (originals n m : ℕ) (q c e b : List Float) (segments : List Segments)
   abbrev p : Problem
   p = problem originals n m q c e b
 
-  pub all-left : {f : Factoring} (i : Iterate) (l : List Float) → f ≡ new →
+  pub all-left : {f : Kept} (i : Iterate) (l : List Float) → f ≡ new →
       Left p segments fixed qAmax linear 0 (state i f l) ≡ passes p segments fixed qAmax linear i l
   unfolding Left passes
   all-left i l e = rw e (run-all _ _ (budget n) (state i new l))
@@ -41,13 +40,13 @@ module _ (originals n m : ℕ) (q c e b : List Float) (segments : List Segments)
     -- after a pass
     module _ (t : Made) (l : List Float) (under : made < budget n) (gave : madeOf n m t l ≡ pass p segments fixed qAmax linear s) where
       pub again : goesOn (t .passed .ending) ≡ true →
-          Left p segments fixed qAmax linear (made + 1) (state (t .passed .iterate) (t .factoring) l) ≡ r
+          Left p segments fixed qAmax linear (made + 1) (state (t .passed .iterate) (keptOf (t .factoring)) l) ≡ r
       unfolding Left step
-      again g = run-more _ _ (budget n) made s _ under (rw (← gave, made-beside) (counted-more (t .passed) (made + 1) n m (t .factoring) l g)) ∙ left
+      again g = run-more _ _ (budget n) made s _ under (rw (← gave, made-beside) (counted-more (t .passed) (made + 1) n m _ l g)) ∙ left
 
       pub ended : (a : Declared.Answer) → Ends (t .passed) (made + 1) a → answerOf n m a ≡ r
       unfolding Left step
-      ended a f = run-done _ _ (budget n) made s under (rw (← gave, made-beside) (f n m (t .factoring) l)) ∙ left
+      ended a f = run-done _ _ (budget n) made s under (rw (← gave, made-beside) (f n m _ l)) ∙ left
 
 -- ---- the slices that each pass is lent keep their lengths
 pub record Same (room qFree eFree gram l room₀ qFree₀ eFree₀ gram₀ l₀ : List Float) : Type 0 where

@@ -5,8 +5,7 @@ use mathlib.Core.List.{List}
 use Prim.Native.Nat.{ℕ, _+_, _*_}
 use lib.Ieee.{Float}
 use Rattle.folds.specs.Run.{Pass, more, done, run}
-use Rattle.factoring.specs.Kept.{new}
-use Rattle.factoring.specs.declared.Factoring.{Factoring}
+use Rattle.factoring.specs.Kept.{Kept, new}
 use Rattle.segments.specs.declared.Segments.{Segments}
 use Rattle.iterate.specs.Problem.{Problem, problem}
 use Rattle.iterate.specs.Iterate as Result
@@ -44,7 +43,7 @@ goesOn Ending.NotConverged = false
 -- the answer of a pass that doesn't, whatever it leaves of the factor
 abbrev pub Ends : Passed → (passes : ℕ) → Declared.Answer → Type 0
 Ends passed passes r =
-    (n m : ℕ) (f : Factoring) (l : List Float) → counted passes (beside f l (passedOf n m passed)) ≡ done (answerOf n m r)
+    (n m : ℕ) (f : Kept) (l : List Float) → counted passes (beside f l (passedOf n m passed)) ≡ done (answerOf n m r)
 
 -- ---- the run: `for _ in 0..100 + 20 * n`
 abbrev pub budget : ℕ → ℕ

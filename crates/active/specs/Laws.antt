@@ -10,8 +10,7 @@ use lib.Seq.{length-take-le}
 use Rattle.folds.specs.Fold.{false-true}
 use Rattle.folds.specs.Run as Run
 use Rattle.folds.specs.Run.{Pass, more, done, run}
-use Rattle.factoring.specs.declared.Factoring.{Factoring}
-use Rattle.factoring.specs.Kept.{new}
+use Rattle.factoring.specs.Kept.{Kept, new}
 use Rattle.segments.specs.declared.Segments.{Segments}
 use Rattle.iterate.specs.Problem.{Problem, problem}
 use Rattle.iterate.specs.Iterate as Result
@@ -86,7 +85,7 @@ unfolding goesOn
 more-goes e m h = false-true (sym (rw m at h))
 
 module _ (p : Passed) (passes : ℕ) where
-  pub counted-more : (n m : ℕ) (f : Factoring) (l : List Float) → goesOn (p .ending) ≡ true →
+  pub counted-more : (n m : ℕ) (f : Kept) (l : List Float) → goesOn (p .ending) ≡ true →
       counted passes (beside f l (passedOf n m p)) ≡ more (state (p .iterate) f l)
   unfolding counted
   counted-more n m f l h = rw (passed-more n m p (goes-more (p .ending) h), beside-more)

@@ -108,8 +108,8 @@ pub fn passes(
         × Room (counts .originals) (counts .n) (counts .m) (now room) (now «q_free») (now «e_free») (now gram)
         × (counts .originals * counts .originals ≤ length (now l)) ⌝ }
     ensures { λ r. ⌜ answerOf (counts .n) (counts .m) r
-        ≡ Definition.passes (problem (counts .originals) (counts .n) (counts .m) (now (q .entry)) (now (c .entry)) (now (e .entry)) (now (b .entry))) segments
-        (now (fixed .entry)) (magnitudes .q) (magnitudes .linear) iterate (now (l .entry)) ⌝ }
+        ≡ Definition.passes (problem (counts .originals) (counts .n) (counts .m) (now (q .entry)) (now (c .entry)) (now (e .entry)) (now (b .entry)))
+        segments (now (fixed .entry)) (magnitudes .q) (magnitudes .linear) iterate (now (l .entry)) ⌝ }
 {
     let n = counts.n;
     let mut at = iterate;

@@ -1,12 +1,13 @@
 -- qp.rs, `Factoring`: a Cholesky factor of Q's block on the free variables, kept from one iteration to the next, and the last set whose block was
--- singular. Q is n by n. `Option` is a mark beside what it holds; the factor itself stands over the start of a list of its own.
+-- singular. Q is n by n. The factor itself stands over the start of a list of its own, l.
 use Prim.Native.Nat.{ℕ, _*_, _≤_}
 use mathlib.Core.Path.{_≡_}
 use mathlib.Core.Bool.{Bool, true, false}
 use mathlib.Core.List.{List}
-use lib.ListN.{length, take, replicate}
+use mathlib.Core.Option.{Option, none, some}
+use lib.ListN.{length, take}
 use lib.Ieee.{Float}
-use Rattle.folds.specs.Fold.{all, over, pick, both, Out, out}
+use Rattle.folds.specs.Fold.{all, over, pick, Out, out}
 use Rattle.folds.specs.Marks.{contains}
 use Rattle.sizes.specs.Sizes as Sizes
 use Rattle.vector.specs.Vector.{Below}
@@ -18,33 +19,29 @@ use Rattle.factor.specs.Room.{Block}
 use Rattle.factoring.specs.declared.Listed.{Listed}
 use Rattle.factoring.specs.declared.Factoring.{Factoring}
 
--- ---- lists: what is held, and `indices.to_vec()`
-abbrev pub listOf : Listed → List ℕ
-listOf s = take (s .count) (s .list)
+-- the variables of the factor's block, and those of the last singular one
+pub record Kept : Type 0 where
+  pub held : Option (List ℕ)
+  pub singular : Option (List ℕ)
 
-unfoldable pub toVec : List ℕ → Listed
-toVec indices = record { list = over indices (replicate Sizes.originals 0); count = length indices }
-
--- the marks and the lists, and the factor
+-- and the factor, which counts where its variables are held
 pub data Factor : Type 0 where
-  factor : Factoring → (l : List Float) → Factor
+  factor : Kept → (l : List Float) → Factor
 
 -- ---- `Factoring::new`, `reset`
-unfoldable pub new : Factoring
-new =
-    let none : Listed = record { list = replicate Sizes.originals 0; count = 0 } in
-    record { factored = false; held = none; failed = false; singular = none }
+unfoldable pub new : Kept
+new = record { held = none; singular = none }
 
-unfoldable pub reset : Factoring → Factoring
-reset f = record { factored = false; held = f .held; failed = f .failed; singular = f .singular }
+unfoldable pub reset : Kept → Kept
+reset f = record { held = none; singular = f .singular }
 
 -- `self.factor.insert((indices.to_vec(), factor))`
-unfoldable pub withFactor : (indices : List ℕ) → Factoring → Factoring
-withFactor indices f = record { factored = true; held = toVec indices; failed = f .failed; singular = f .singular }
+unfoldable pub withFactor : (indices : List ℕ) → Kept → Kept
+withFactor indices f = record { held = some indices; singular = f .singular }
 
 -- `self.singular = Some(indices.to_vec()); return None;`
-unfoldable pub withSingular : (indices : List ℕ) → Factoring → Factoring
-withSingular indices f = record { factored = false; held = f .held; failed = true; singular = toVec indices }
+unfoldable pub withSingular : (indices : List ℕ) → Kept → Kept
+withSingular indices f = record { held = none; singular = some indices }
 
 -- ---- afresh
 -- `q.select_rows(indices).select_columns(indices)`
@@ -64,7 +61,7 @@ unfoldable pub fresh : (q : List Float) (n : ℕ) (indices : List ℕ) (l : List
 fresh q n indices l = definite (length indices) (over (block q n indices) l)
 
 -- `let Some(cholesky) = .. else { self.singular = Some(indices.to_vec()); return None; }`
-unfoldable pub kept : (indices : List ℕ) → Factoring → Out (List Float) → Factor
+unfoldable pub kept : (indices : List ℕ) → Kept → Out (List Float) → Factor
 kept indices f (out true l) = factor (withFactor indices f) l
 kept indices f (out false l) = factor (withSingular indices f) l
 
@@ -73,40 +70,62 @@ unfoldable pub containsAll : (indices s : List ℕ) → Bool
 containsAll indices s = all (length s) (λ t. contains indices (index s t))
 
 -- `self.singular.as_ref().is_some_and(..)`
-unfoldable pub containsSingular : (indices : List ℕ) (failed : Bool) (singular : Listed) → Bool
-containsSingular indices failed singular = both failed (containsAll indices (listOf singular))
+unfoldable pub containsSingular : (indices : List ℕ) (singular : Option (List ℕ)) → Bool
+containsSingular indices none = false
+containsSingular indices (some s) = containsAll indices s
 
-unfoldable pub afresh : (q : List Float) (n : ℕ) (indices : List ℕ) → Factoring → (l : List Float) → Factor
-afresh q n indices f l =
-    pick (containsSingular indices (f .failed) (f .singular)) (factor (reset f) l) (kept indices f (fresh q n indices l))
+unfoldable pub afresh : (q : List Float) (n : ℕ) (indices : List ℕ) → Kept → (l : List Float) → Factor
+afresh q n indices f l = pick (containsSingular indices (f .singular)) (factor (reset f) l) (kept indices f (fresh q n indices l))
 
 -- ---- `update`
 -- `self.factor.take().and_then(|(held, cholesky)| updated(q, held, cholesky, indices))`
-unfoldable pub lastUpdated : (q : List Float) (n : ℕ) (indices : List ℕ) (factored : Bool) (held : Listed) (l : List Float) → Out (List Float)
-lastUpdated q n indices factored held l = pick factored (updated q n (listOf held) l indices) (out false l)
+unfoldable pub lastUpdated : (q : List Float) (n : ℕ) (indices : List ℕ) (held : Option (List ℕ)) (l : List Float) → Out (List Float)
+lastUpdated q n indices none l = out false l
+lastUpdated q n indices (some held) l = updated q n held l indices
 
--- `match updated`: `factored` says afterwards whether `update` gives a factor
-unfoldable pub settled : (q : List Float) (n : ℕ) (indices : List ℕ) → Factoring → Out (List Float) → Factor
+-- `match updated`: `update` gives the factor where variables are held afterwards
+unfoldable pub settled : (q : List Float) (n : ℕ) (indices : List ℕ) → Kept → Out (List Float) → Factor
 settled q n indices f (out true l) = factor (withFactor indices f) l
 settled q n indices f (out false l) = afresh q n indices f l
 
-unfoldable pub update : (q : List Float) (n : ℕ) (indices : List ℕ) → Factoring → (l : List Float) → Factor
-update q n indices f l = settled q n indices f (lastUpdated q n indices (f .factored) (f .held) l)
+unfoldable pub update : (q : List Float) (n : ℕ) (indices : List ℕ) → Kept → (l : List Float) → Factor
+update q n indices f l = settled q n indices f (lastUpdated q n indices (f .held) l)
 
--- ---- what a test against a kept list asks: the array holds the list, and the variables of it are below the engine's count of originals
-pub record Bounded (s : Listed) : Type 0 where
-  pub fits : s .count ≤ Sizes.originals
-  pub below : Below (length (listOf s)) (listOf s) Sizes.originals
+-- ---- what the code's record stands for: the first `count` of each array, where it is marked
+abbrev pub listOf : Listed → List ℕ
+listOf s = take (s .count) (s .list)
 
--- ---- what every call keeps: the lists are rising and below o, and the pivots of a factor pass the floor or are NaN
-pub record Fitting (o : ℕ) (s : Listed) : Type 0 where
+unfoldable pub optionOf : (marked : Bool) → Listed → Option (List ℕ)
+optionOf false s = none
+optionOf true s = some (listOf s)
+
+unfoldable pub keptOf : Factoring → Kept
+keptOf f = record { held = optionOf (f .factored) (f .held); singular = optionOf (f .failed) (f .singular) }
+
+-- ---- what a test against the singular list asks, and an update of the factor: the array holds what is counted of it, and where it is marked its
+-- variables are below the engine's count of originals, or rising and below o
+pub record Bounded (marked : Bool) (s : Listed) : Type 0 where
   pub fits : s .count ≤ Sizes.originals
-  pub rises : Rising o (listOf s)
+  pub below : marked ≡ true → Below (length (listOf s)) (listOf s) Sizes.originals
+
+pub record Fitting (o : ℕ) (marked : Bool) (s : Listed) : Type 0 where
+  pub fits : s .count ≤ Sizes.originals
+  pub rises : marked ≡ true → Rising o (listOf s)
+
+-- ---- what every call keeps: the arrays hold what is counted of them, the lists are rising and below o, and the pivots of a factor pass the floor
+-- or are NaN
+pub record Fits (f : Factoring) : Type 0 where
+  pub held : f .held .count ≤ Sizes.originals
+  pub singular : f .singular .count ≤ Sizes.originals
+
+pub record Sound (o : ℕ) (f : Kept) (l : List Float) : Type 0 where
+  pub held : (s : List ℕ) → f .held ≡ some s → Rising o s
+  pub singular : (s : List ℕ) → f .singular ≡ some s → Rising o s
+  pub pivots : (s : List ℕ) → f .held ≡ some s → Sounds (length s) l
 
 pub record Good (o : ℕ) (f : Factoring) (l : List Float) : Type 0 where
-  pub held : Fitting o (f .held)
-  pub singular : Fitting o (f .singular)
-  pub sound : f .factored ≡ true → Sounds (length (listOf (f .held))) l
+  pub fits : Fits f
+  pub sound : Sound o (keptOf f) l
 
 -- ---- what `update` asks: Q and the list, the kept factor, and room for it and for the block's rows of Q
 pub record Updatable (n o : ℕ) (q : List Float) (indices : List ℕ) (f : Factoring) (l room : List Float) : Type 0 where

@@ -8,7 +8,7 @@ ghost use Rattle.sizes.specs.Sizes as Sizes;
 ghost use Rattle.vector.specs.Vector.{Below};
 ghost use Rattle.factor.specs.Factor.{Rising};
 ghost use Rattle.factor.specs.Room.{Block, Room};
-ghost use Rattle.factoring.specs.Kept.{factor};
+ghost use Rattle.factoring.specs.Kept.{factor, keptOf};
 ghost use Rattle.factoring.specs.Kept as Kept;
 
 // A list of variables: the first `count` of the array.
@@ -28,7 +28,7 @@ pub struct Factoring {
 
 fn to_vec(indices: &[usize]) -> Listed
     requires { ⌜ length (now indices) ≤ Sizes.originals ⌝ }
-    ensures { λ r. ⌜ r ≡ Kept.toVec (now (indices .entry)) ⌝ }
+    ensures { λ r. ⌜ (Kept.listOf r ≡ now (indices .entry)) × (r .count ≤ Sizes.originals) ⌝ }
 {
     let mut list = [0; sizes::ORIGINALS];
     for i in 0..indices.len() {
@@ -57,8 +57,8 @@ fn contains_all(indices: &[usize], s: &[usize]) -> bool
 
 // Whether the block on `indices` contains the last singular one.
 fn contains_singular(failed: bool, singular: Listed, indices: &[usize]) -> bool
-    requires { ⌜ Below (length (now indices)) (now indices) Sizes.originals × Kept.Bounded singular ⌝ }
-    ensures { λ r. ⌜ r ≡ Kept.containsSingular (now (indices .entry)) failed singular ⌝ }
+    requires { ⌜ Below (length (now indices)) (now indices) Sizes.originals × Kept.Bounded failed singular ⌝ }
+    ensures { λ r. ⌜ r ≡ Kept.containsSingular (now (indices .entry)) (Kept.optionOf failed singular) ⌝ }
 {
     if failed {
         let list = singular.list;
@@ -107,10 +107,10 @@ fn last_updated(
 ) -> bool
     requires { ⌜ Block n originals (now q)
         × Room originals (now l) (now room)
-        × Kept.Fitting originals held
+        × Kept.Fitting originals factored held
         × Rising originals (now indices) ⌝ }
     ensures { λ r. ⌜ out r (now (l .exit))
-        ≡ Kept.lastUpdated (now (q .entry)) n (now (indices .entry)) factored held (now (l .entry)) ⌝ }
+        ≡ Kept.lastUpdated (now (q .entry)) n (now (indices .entry)) (Kept.optionOf factored held) (now (l .entry)) ⌝ }
 {
     if factored {
         let list = held.list;
@@ -122,7 +122,8 @@ fn last_updated(
 
 impl Factoring {
     pub fn new() -> Self
-        ensures { λ r. ⌜ r ≡ Kept.new ⌝ }
+        ensures { λ r. ⌜ keptOf r ≡ Kept.new ⌝ }
+        ensures { λ r. ⌜ Kept.Fits r ⌝ }
     {
         let none = Listed {
             list: [0; sizes::ORIGINALS],
@@ -138,7 +139,8 @@ impl Factoring {
 
     // Drops the factor.
     pub fn reset(self) -> Self
-        ensures { λ r. ⌜ r ≡ Kept.reset self ⌝ }
+        ensures { λ r. ⌜ keptOf r ≡ Kept.reset (keptOf self) ⌝ }
+        ensures { λ r. ⌜ (Kept.Fits self → Kept.Fits r) ⌝ }
     {
         let mut f = self;
         f.factored = false;
@@ -147,7 +149,8 @@ impl Factoring {
 
     fn with_factor(self, indices: &[usize]) -> Self
         requires { ⌜ length (now indices) ≤ Sizes.originals ⌝ }
-        ensures { λ r. ⌜ r ≡ Kept.withFactor (now (indices .entry)) self ⌝ }
+        ensures { λ r. ⌜ keptOf r ≡ Kept.withFactor (now (indices .entry)) (keptOf self) ⌝ }
+        ensures { λ r. ⌜ (Kept.Fits self → Kept.Fits r) ⌝ }
     {
         let mut f = self;
         f.factored = true;
@@ -157,7 +160,8 @@ impl Factoring {
 
     fn with_singular(self, indices: &[usize]) -> Self
         requires { ⌜ length (now indices) ≤ Sizes.originals ⌝ }
-        ensures { λ r. ⌜ r ≡ Kept.withSingular (now (indices .entry)) self ⌝ }
+        ensures { λ r. ⌜ keptOf r ≡ Kept.withSingular (now (indices .entry)) (keptOf self) ⌝ }
+        ensures { λ r. ⌜ (Kept.Fits self → Kept.Fits r) ⌝ }
     {
         let mut f = self;
         f.factored = false;
@@ -172,10 +176,12 @@ impl Factoring {
             × (length (now indices) ≤ Sizes.originals)
             × Below (length (now indices)) (now indices) Sizes.originals
             × Below (length (now indices)) (now indices) n
-            × Kept.Bounded (self .singular)
+            × Kept.Bounded (self .failed) (self .singular)
             × (length (now indices) * length (now indices) ≤ length (now l))
             × (length (now indices) * n ≤ length (now room)) ⌝ }
-        ensures { λ r. ⌜ factor r (now (l .exit)) ≡ Kept.afresh (now (q .entry)) n (now (indices .entry)) self (now (l .entry)) ⌝ }
+        ensures { λ r. ⌜ factor (keptOf r) (now (l .exit))
+            ≡ Kept.afresh (now (q .entry)) n (now (indices .entry)) (keptOf self) (now (l .entry)) ⌝ }
+        ensures { λ r. ⌜ (Kept.Fits self → Kept.Fits r) ⌝ }
     {
         let singular = self.singular;
         if contains_singular(self.failed, singular, indices) {
@@ -199,7 +205,8 @@ impl Factoring {
         room: &mut [f64],
     ) -> Self
         requires { ⌜ Kept.Updatable n originals (now q) (now indices) self (now l) (now room) ⌝ }
-        ensures { λ r. ⌜ factor r (now (l .exit)) ≡ Kept.update (now (q .entry)) n (now (indices .entry)) self (now (l .entry)) ⌝ }
+        ensures { λ r. ⌜ factor (keptOf r) (now (l .exit))
+            ≡ Kept.update (now (q .entry)) n (now (indices .entry)) (keptOf self) (now (l .entry)) ⌝ }
         ensures { λ r. ⌜ Kept.Good originals r (now (l .exit)) ⌝ }
     {
         let held = self.held;

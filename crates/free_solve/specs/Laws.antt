@@ -1,4 +1,4 @@
--- Laws of the definitions: what the calls of a solve give, put together, what is kept, and what a result holds.
+-- Laws of the definitions: what the calls of a solve give, put together, and what a result holds.
 use mathlib.Core.Path.{_≡_, refl, sym, ap, _∙_}
 use mathlib.Core.Bool.{true, false}
 use mathlib.Core.List.{List}
@@ -10,11 +10,11 @@ use Rattle.folds.specs.Fold.{pick}
 use Rattle.sizes.specs.Sizes as Sizes
 use Rattle.factor.specs.Factor.{Rising}
 use Rattle.factoring.specs.declared.Factoring.{Factoring}
-use Rattle.factoring.specs.Kept.{Factor, factor, Good, reset, update}
-use Rattle.factoring.specs.Laws.{good-reset, update-good, update-regular}
+use Rattle.factoring.specs.Kept.{Kept, Factor, factor, reset, update, optionOf, keptOf, Good}
+use Rattle.factoring.specs.Laws.{held-is, update-regular}
 use Rattle.scaled.specs.System.{System, system}
 use Rattle.factored.specs.declared.Found.{Found}
-use Rattle.factored.specs.Factored.{Answer, some, none, foundOf}
+use Rattle.factored.specs.Factored.{foundOf}
 use Rattle.factored.specs.Laws.{found-is}
 use Rattle.solution.specs.declared.Solution as Noisy
 use Rattle.solution.specs.declared.Verdict.the-variants.{Solved}
@@ -34,7 +34,7 @@ module _ (k m : ℕ) (r : Result.Solved) (l : List Float) (s : FreeSolution) (e 
   unfolding solutionOf
   left-answer = ap (λ (z : FreeSolution). z .answer) (sym e)
 
-  pub left-factoring : s .factoring ≡ r .factoring
+  pub left-factoring : s .factoring ≡ keptOf (r .factoring)
   unfolding solutionOf
   left-factoring = ap (λ (z : FreeSolution). z .factoring) (sym e)
 
@@ -42,23 +42,24 @@ module _ (k m : ℕ) (r : Result.Solved) (l : List Float) (s : FreeSolution) (e 
   unfolding solutionOf
   left-factor = ap (λ (z : FreeSolution). z .factor) (sym e)
 
-  pub good-left : (o : ℕ) → Good o (s .factoring) (s .factor) → Good o (r .factoring) l
-  good-left o g = rw (left-factoring, left-factor) at g
-
 -- ---- what the calls give
 module _ (f : Factoring) (l : List Float) (s : System) (noise : Float) (k m : ℕ) where
-  module _ (g : Found) (e : foundOf k m g ≡ fromFactor (f .factored) l s noise) where
+  module _ (g : Found) (e : foundOf k m g ≡ fromFactor (optionOf (f .factored) (f .held)) l s noise) where
+    answered : foundOf k m g ≡ fromFactor (keptOf f .held) l s noise
+    answered = rw (held-is f) e
+
     -- by whether the factored solve found an optimum
     pub after-found : g .found ≡ true →
         solutionOf k m (record { solution = record { verdict = Solved; x = g .x; multipliers = g .multipliers }; factoring = f }) l
-        ≡ solveUpdated (factor f l) s noise
+        ≡ solveUpdated (factor (keptOf f) l) s noise
     unfolding solutionOf solveUpdated matched pick
-    after-found t = rw (← e, found-is k m g, t) (ap (λ a. record { answer = a; factoring = f; factor = l }) (solution-solved k m _ refl))
+    after-found t =
+        rw (← answered, found-is k m g, t) (ap (λ a. record { answer = a; factoring = keptOf f; factor = l }) (solution-solved k m _ refl))
 
-    pub after-missed : {d : Factoring} (t : Noisy.Solution) → g .found ≡ false → Kkt.solutionOf k m t ≡ solveNoisyKkt s noise → d ≡ reset f →
-        solutionOf k m (record { solution = t; factoring = d }) l ≡ solveUpdated (factor f l) s noise
+    pub after-missed : (d : Factoring) (t : Noisy.Solution) → g .found ≡ false → Kkt.solutionOf k m t ≡ solveNoisyKkt s noise →
+        keptOf d ≡ reset (keptOf f) → solutionOf k m (record { solution = t; factoring = d }) l ≡ solveUpdated (factor (keptOf f) l) s noise
     unfolding solutionOf solveUpdated matched fromEigenvectors pick
-    after-missed t h a r = rw (← e, found-is k m g, h, a, r)
+    after-missed d t h a r = rw (← answered, found-is k m g, h, a, r)
 
 -- the system in the free variables, of what the code leaves
 pub free-system : (k m : ℕ) (r : Free) (qFree eFree : List Float) → r .columns ≤ length (r .kept) →
@@ -69,32 +70,14 @@ free-system k m r qFree eFree h =
     let p = parts k m r qFree eFree in
     rw (p .square-is, p .gradient-is, p .entries-are, p .residual-is, p .kept-are, length-take-le (r .columns) (r .kept) h)
 
-pub free-from : {u : Factor} {r : FreeSolution} {s : System} {noise : Float} (q : List Float) (n : ℕ) (solved : List ℕ) (g : Gathered) (f : Factoring)
+pub free-from : {u : Factor} {r : FreeSolution} {s : System} {noise : Float} (q : List Float) (n : ℕ) (solved : List ℕ) (g : Gathered) (f : Kept)
     (l : List Float) → u ≡ update q n solved f l → freeSystem (length solved) g ≡ s → g .noise ≡ noise → r ≡ solveUpdated u s noise →
     r ≡ solveFree q n solved g f l
 unfolding solveFree
 free-from q n solved g f l e s z h = h ∙ rw (e, s, z)
 
--- ---- every solve keeps `Good`
-module _ (o : ℕ) where
-  abbrev Kept : FreeSolution → Type 0
-  Kept r = Good o (r .factoring) (r .factor)
-
-  good-matched : (f : Factoring) (l : List Float) (s : System) (noise : Float) (a : Answer) → Good o f l → Kept (matched f l s noise a)
-  unfolding matched fromEigenvectors
-  good-matched f l s noise (some x multipliers) g = g
-  good-matched f l s noise none g = good-reset o f l g
-
-  good-after : (f : Factoring) (l : List Float) (s : System) (noise : Float) → Good o f l → Kept (solveUpdated (factor f l) s noise)
-  unfolding solveUpdated
-  good-after f l s noise g = good-matched f l s noise (fromFactor (f .factored) l s noise) g
-
-  module _ (few : o ≤ Sizes.originals) (q : List Float) (n : ℕ) (solved : List ℕ) (f : Factoring) (l : List Float) (r : Rising o solved)
-      (g : Good o f l) {u : Factoring} {m : List Float} (e : factor u m ≡ update q n solved f l) where
-    pub good-solve : (h : Gathered) → Kept (solveFree q n solved h f l)
-    unfolding solveFree
-    good-solve h = rw (← e) (good-after u m (freeSystem (length solved) h) (h .noise) (update-good o few q n solved f l r g e))
-
-    -- a factor that `update` gives may be divided by
-    pub regular-from : length solved * length solved ≤ length m → Regular (length solved) (u .factored) m
-    regular-from h = record { holds = h; diagonal = update-regular o few q n solved f l r g e }
+-- a factor that `update` gives may be divided by
+pub regular-from : (o : ℕ) → o ≤ Sizes.originals → (q : List Float) (n : ℕ) (solved : List ℕ) → Rising o solved → (f : Factoring) (l : List Float) →
+    Good o f l → (u : Factoring) {m : List Float} → factor (keptOf u) m ≡ update q n solved (keptOf f) l →
+    length solved * length solved ≤ length m → Regular (length solved) (u .factored) m
+regular-from o few q n solved r f l g u e h = record { holds = h; diagonal = update-regular o few q n solved r f l g u e }

@@ -1,10 +1,11 @@
 // qp.rs, a pass of `solve_piecewise_in_units`: the step on the free variables, from the factor kept across iterations where Q is positive definite
 // on them, and otherwise, or if that misses, from the eigendecomposition. K is n by n, E is n by m.
 ghost use mathlib.Core.Path.{_≡_};
-ghost use Prim.Native.Nat.{_≤_, _*_};
+ghost use Prim.Native.Nat.{ℕ, _≤_, _*_};
 ghost use lib.ListN.{length};
 ghost use Rattle.scaled.specs.System.{Sized, system};
-ghost use Rattle.factoring.specs.Kept.{factor, Good, Updatable};
+ghost use Rattle.factoring.specs.Kept.{factor, optionOf, keptOf, Good, Updatable};
+ghost use Rattle.factoring.specs.declared.Listed.{Listed};
 ghost use Rattle.factored.specs.Factored.{foundOf};
 ghost use Rattle.free_problem.specs.FreeProblem.{gatheredOf, Lists};
 ghost use Rattle.free_solve.specs.Regular.{Regular};
@@ -22,7 +23,7 @@ pub struct Solved {
     pub factoring: Factoring,
 }
 
-// .and_then(|cholesky| solve_factored(cholesky, problem, noise))
+// .and_then(|cholesky| solve_factored(cholesky, problem, noise)), whatever the variables of the factor.
 fn from_factor(
     factored: bool,
     l: &[f64],
@@ -40,9 +41,9 @@ fn from_factor(
         × Regular n factored (now l)
         × (n * m ≤ length (now w))
         × (m * m ≤ length (now gram)) ⌝ }
-    ensures { λ r. ⌜ foundOf n m r
-        ≡ Definition.fromFactor factored (now (l .entry))
-        (system n m (now (k .entry)) (now (c .entry)) (now (e .entry)) (now (b .entry))) noise ⌝ }
+    ensures { λ r. ⌜ ((held : Listed) → foundOf n m r
+        ≡ Definition.fromFactor (optionOf factored held) (now (l .entry))
+        (system n m (now (k .entry)) (now (c .entry)) (now (e .entry)) (now (b .entry))) noise) ⌝ }
 {
     if factored {
         return factored::solve_factored(l, k, c, e, b, n, m, noise, w, gram);
@@ -73,8 +74,9 @@ fn solve_updated(
         × (n * m ≤ length (now w))
         × (m * m ≤ length (now gram)) ⌝ }
     ensures { λ r. ⌜ Definition.solutionOf n m r (now (l .entry))
-        ≡ Definition.solveUpdated (factor factoring (now (l .entry)))
+        ≡ Definition.solveUpdated (factor (keptOf factoring) (now (l .entry)))
         (system n m (now (k .entry)) (now (c .entry)) (now (e .entry)) (now (b .entry))) noise ⌝ }
+    ensures { λ r. ⌜ ((o : ℕ) → Good o factoring (now (l .entry)) → Good o (r .factoring) (now (l .entry))) ⌝ }
 {
     let found = from_factor(factoring.factored, l, k, c, e, b, n, m, noise, w, gram);
     let x = found.x;
@@ -119,7 +121,8 @@ pub fn solve_free(
         × (free .columns * free .columns ≤ length (now gram)) ⌝ }
     ensures { λ r. ⌜ Definition.solutionOf (length (now (solved .entry))) (free .columns) r (now (l .exit))
         ≡ Definition.solveFree (now (q .entry)) (counts .n) (now (solved .entry))
-        (gatheredOf (length (now (solved .entry))) (counts .m) free (now («q_free» .entry)) (now («e_free» .entry))) factoring (now (l .entry)) ⌝ }
+        (gatheredOf (length (now (solved .entry))) (counts .m) free (now («q_free» .entry)) (now («e_free» .entry))) (keptOf factoring)
+        (now (l .entry)) ⌝ }
     ensures { λ r. ⌜ Good (counts .originals) (r .factoring) (now (l .exit)) ⌝ }
 {
     let k = solved.len();

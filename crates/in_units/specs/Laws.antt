@@ -24,9 +24,10 @@ unfolding started
 started-kept n segments start cut = record { placed = all-placed n segments _ _ _ cut refl }
 
 -- what the calls leave, put together
-pub units-from : {r : Answer} {fixed : List Bool} {qAmax linear cAmax slopes : Float} {i : Iterate} {l : List Float} (originals n m : ℕ) (q c e b : List Float)
-    (segments : List Segments) (start : List Float) → fixed ≡ allFixed n segments → qAmax ≡ amax (n * n) q → cAmax ≡ amax n c →
-    slopes ≡ slopeAmax n segments → linear ≡ max cAmax slopes → i ≡ started n segments start → l ≡ filled (originals * originals) f0 →
+pub units-from : {r : Answer} {fixed : List Bool} {qAmax linear cAmax slopes : Float} {i : Iterate} {l : List Float}
+    (originals n m : ℕ) (q c e b : List Float) (segments : List Segments) (start : List Float) →
+    fixed ≡ allFixed n segments → qAmax ≡ amax (n * n) q → cAmax ≡ amax n c → slopes ≡ slopeAmax n segments →
+    linear ≡ max cAmax slopes → i ≡ started n segments start → l ≡ filled (originals * originals) f0 →
     r ≡ passes (problem originals n m q c e b) segments fixed qAmax linear i l →
     r ≡ solvePiecewiseInUnits (problem originals n m q c e b) segments start
 unfolding solvePiecewiseInUnits

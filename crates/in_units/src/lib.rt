@@ -69,7 +69,8 @@ fn solve_piecewise_in_units(
         × Room (counts .originals) (counts .n) (counts .m) (now room) (now «q_free») (now «e_free») (now gram)
         × (now l ≡ filled (counts .originals * counts .originals) f0) ⌝ }
     ensures { λ r. ⌜ answerOf (counts .n) (counts .m) r
-        ≡ Definition.solvePiecewiseInUnits (problem (counts .originals) (counts .n) (counts .m) (now (q .entry)) (now (c .entry)) (now (e .entry)) (now (b .entry)))
+        ≡ Definition.solvePiecewiseInUnits
+        (problem (counts .originals) (counts .n) (counts .m) (now (q .entry)) (now (c .entry)) (now (e .entry)) (now (b .entry)))
         segments (now (start .entry)) ⌝ }
 {
     let n = counts.n;

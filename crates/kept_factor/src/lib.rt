@@ -1,12 +1,13 @@
 // The kept factor, lent by mutable reference and changed there (document 01); each call is proved equal to the by-value one of `factoring`.
 ghost use mathlib.Core.Path.{_≡_};
-ghost use Rattle.factoring.specs.Kept.{factor};
+ghost use Rattle.factoring.specs.Kept.{factor, keptOf};
 ghost use Rattle.factoring.specs.Kept as Kept;
 use factoring::Factoring;
 
 // Drops the factor.
 pub fn reset(f: &mut Factoring)
-    ensures { λ _. ⌜ now (f .exit) ≡ Kept.reset (now (f .entry)) ⌝ }
+    ensures { λ _. ⌜ keptOf (now (f .exit)) ≡ Kept.reset (keptOf (now (f .entry))) ⌝ }
+    ensures { λ _. ⌜ (Kept.Fits (now (f .entry)) → Kept.Fits (now (f .exit))) ⌝ }
 {
     *f = (*f).reset();
 }
@@ -21,8 +22,8 @@ pub fn update(
     room: &mut [f64],
 )
     requires { ⌜ Kept.Updatable n originals (now q) (now indices) (now f) (now l) (now room) ⌝ }
-    ensures { λ _. ⌜ factor (now (f .exit)) (now (l .exit))
-        ≡ Kept.update (now (q .entry)) n (now (indices .entry)) (now (f .entry)) (now (l .entry)) ⌝ }
+    ensures { λ _. ⌜ factor (keptOf (now (f .exit))) (now (l .exit))
+        ≡ Kept.update (now (q .entry)) n (now (indices .entry)) (keptOf (now (f .entry))) (now (l .entry)) ⌝ }
     ensures { λ _. ⌜ Kept.Good originals (now (f .exit)) (now (l .exit)) ⌝ }
 {
     *f = (*f).update(q, n, originals, indices, l, room);
@@ -30,7 +31,8 @@ pub fn update(
 
 // The same for a caller that holds the record by value: these contracts name no reference to it.
 pub fn dropped(f: Factoring) -> Factoring
-    ensures { λ r. ⌜ r ≡ Kept.reset f ⌝ }
+    ensures { λ r. ⌜ keptOf r ≡ Kept.reset (keptOf f) ⌝ }
+    ensures { λ r. ⌜ (Kept.Fits f → Kept.Fits r) ⌝ }
 {
     let mut kept = f;
     reset(&mut kept);
@@ -47,7 +49,7 @@ pub fn updated(
     room: &mut [f64],
 ) -> Factoring
     requires { ⌜ Kept.Updatable n originals (now q) (now indices) f (now l) (now room) ⌝ }
-    ensures { λ r. ⌜ factor r (now (l .exit)) ≡ Kept.update (now (q .entry)) n (now (indices .entry)) f (now (l .entry)) ⌝ }
+    ensures { λ r. ⌜ factor (keptOf r) (now (l .exit)) ≡ Kept.update (now (q .entry)) n (now (indices .entry)) (keptOf f) (now (l .entry)) ⌝ }
     ensures { λ r. ⌜ Kept.Good originals r (now (l .exit)) ⌝ }
 {
     let mut next = f;

@@ -1,4 +1,5 @@
--- Laws of the definitions: the free variables, split at `originals`, are as the solve and the step ask, and what a function's calls give, put together.
+-- Laws of the definitions: the free variables, split at `originals`, are as the solve and the step ask, and what a function's calls give, put
+-- together.
 use mathlib.Core.Path.{_≡_, _∙_}
 use mathlib.Core.Bool.{Bool}
 use mathlib.Core.List.{List}
@@ -15,7 +16,7 @@ use Rattle.folds.specs.Position.{partitionPoint, split-within}
 use Rattle.sizes.specs.Sizes as Sizes
 use Rattle.factor.specs.Factor.{Rising}
 use Rattle.factor.specs.Laws.{rising-chosen}
-use Rattle.factoring.specs.declared.Factoring.{Factoring}
+use Rattle.factoring.specs.Kept.{Kept, keptOf}
 use Rattle.segments.specs.declared.Segments.{Segments}
 use Rattle.segments.specs.declared.Spot.{Spot}
 use Rattle.free_list.specs.FreeList.{freeIndices, slopes}
@@ -76,11 +77,11 @@ module _ {indices solved : List ℕ} (originals n : ℕ) (state : List Spot) (wi
 
 -- ---- what the calls give
 module _ (originals n m : ℕ) (q c e : List Float) (segments : List Segments) (fixed : List Bool) (qAmax linear : Float)
-    (solved slacks : List ℕ) (i : Iterate) (f : Factoring) (l : List Float) where
+    (solved slacks : List ℕ) (i : Iterate) (f : Kept) (l : List Float) where
   pub step-from : {x : Pass Iterate Result} (k columns : ℕ) (g : Gathered) (r : Solved) (l′ : List Float) →
       solutionOf k columns r l′ ≡ solveFree q n solved g f l →
       x ≡ step originals n m q c e segments fixed qAmax linear solved slacks g i (Solution.solutionOf k columns (r .solution)) →
-      beside (r .factoring) l′ x ≡ solveAndStep originals n m q c e segments fixed qAmax linear solved slacks g i f l
+      beside (keptOf (r .factoring)) l′ x ≡ solveAndStep originals n m q c e segments fixed qAmax linear solved slacks g i f l
   unfolding solveAndStep
   step-from k columns g r l′ s h = rw (h, left-answer _ _ r l′ _ s, left-factoring _ _ r l′ _ s, left-factor _ _ r l′ _ s)
 
@@ -93,7 +94,8 @@ module _ (originals n m : ℕ) (q c e : List Float) (segments : List Segments) (
     unfolding freePass
     free-from g s h = h ∙ rw (g, s)
 
-    module _ {indices : List ℕ} (free : indices ≡ freeIndices n (i .board .state)) (lead : solved ≡ take (partitionPoint originals indices) indices) where
+    module _ {indices : List ℕ} (free : indices ≡ freeIndices n (i .board .state))
+        (lead : solved ≡ take (partitionPoint originals indices) indices) where
       pub pass-without : {x : Pass Iterate Result} → length solved ≡ 0 → x ≡ withoutFree originals n m segments fixed i →
           beside f l x ≡ pass (problem originals n m q c e b) segments fixed qAmax linear (state i f l)
       unfolding pass pick

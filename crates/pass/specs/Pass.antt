@@ -8,7 +8,7 @@ use lib.Ieee.{Float}
 use Rattle.folds.specs.Fold.{pick}
 use Rattle.folds.specs.Position.{partitionPoint}
 use Rattle.folds.specs.Run.{Pass}
-use Rattle.factoring.specs.declared.Factoring.{Factoring}
+use Rattle.factoring.specs.Kept.{Kept}
 use Rattle.segments.specs.declared.Segments.{Segments}
 use Rattle.free_list.specs.FreeList.{freeIndices, slopes}
 use Rattle.iterate.specs.Problem.{Problem, problem}
@@ -22,14 +22,14 @@ use Rattle.pass.specs.State.{State, state, beside}
 
 -- `let solution = match factored { .. }`, and the step that it gives
 unfoldable pub solveAndStep : (originals n m : ℕ) (q c e : List Float) (segments : List Segments) (fixed : List Bool) (qAmax linear : Float)
-    (solved slacks : List ℕ) → Gathered → Iterate → Factoring → (l : List Float) → Pass State Result
+    (solved slacks : List ℕ) → Gathered → Iterate → Kept → (l : List Float) → Pass State Result
 solveAndStep originals n m q c e segments fixed qAmax linear solved slacks g i f l =
     let s = solveFree q n solved g f l in
     beside (s .factoring) (s .factor) (step originals n m q c e segments fixed qAmax linear solved slacks g i (s .answer))
 
 -- from `let slope = ..` on
 unfoldable pub freePass : Problem → (segments : List Segments) (fixed : List Bool) (qAmax linear : Float) (solved slacks : List ℕ) → Iterate →
-    Factoring → (l : List Float) → Pass State Result
+    Kept → (l : List Float) → Pass State Result
 freePass (problem originals n m q c e b) segments fixed qAmax linear solved slacks i f l =
     solveAndStep originals n m q c e segments fixed qAmax linear solved slacks
     (gather (problem originals n m q c e b) (take n (i .board .x)) solved slacks

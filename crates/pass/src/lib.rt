@@ -1,12 +1,12 @@
-// qp.rs, a pass of `solve_piecewise_in_units`: it lists the free variables, gathers the problem in them, solves that and steps. Q is n by n, E is n by
-// m; the variables from `originals` on are slacks, each with one of the last columns of E. `indices` are the free variables, `solved` those of them
-// below `originals`, `slacks` the others. The slices from room on are work memory, but l, which holds the kept factor.
+// qp.rs, a pass of `solve_piecewise_in_units`: it lists the free variables, gathers the problem in them, solves that and steps. Q is n by n, E is
+// n by m; the variables from `originals` on are slacks, each with one of the last columns of E. `indices` are the free variables, `solved` those of
+// them below `originals`, `slacks` the others. The slices from room on are work memory, but l, which holds the kept factor.
 ghost use mathlib.Core.Path.{_≡_};
 ghost use Prim.Native.Nat.{_≤_, _*_};
 ghost use lib.ListN.{length};
 ghost use Rattle.sizes.specs.Sizes as Sizes;
 ghost use Rattle.factor.specs.Factor.{Rising};
-ghost use Rattle.factoring.specs.Kept.{Good};
+ghost use Rattle.factoring.specs.Kept.{keptOf, Good};
 ghost use Rattle.segments.specs.Segments.{AllCut};
 ghost use Rattle.free_list.specs.FreeList.{Ends, freeIndices};
 ghost use Rattle.iterate.specs.Problem.{problem, Shaped, Room};
@@ -68,8 +68,8 @@ fn solve_and_step(
     ensures { λ r. ⌜ madeOf (counts .n) (counts .m) r (now (l .exit))
         ≡ Definition.solveAndStep (counts .originals) (counts .n) (counts .m) (now (q .entry)) (now (c .entry)) (now (e .entry)) segments
         (now (fixed .entry)) (magnitudes .q) (magnitudes .linear) (now (solved .entry)) (now (slacks .entry))
-        (gatheredOf (length (now (solved .entry))) (counts .m) free (now («q_free» .entry)) (now («e_free» .entry))) iterate factoring
-        (now (l .entry)) ⌝ }
+        (gatheredOf (length (now (solved .entry))) (counts .m) free (now («q_free» .entry)) (now («e_free» .entry))) iterate
+        (keptOf factoring) (now (l .entry)) ⌝ }
     ensures { λ r. ⌜ Kept (counts .n) segments (r .passed .iterate) × Good (counts .originals) (r .factoring) (now (l .exit)) ⌝ }
 {
     let s = free_solve::solve_free(
@@ -142,8 +142,10 @@ fn free_pass(
         × Good (counts .originals) factoring (now l)
         × (counts .originals * counts .originals ≤ length (now l)) ⌝ }
     ensures { λ r. ⌜ madeOf (counts .n) (counts .m) r (now (l .exit))
-        ≡ Definition.freePass (problem (counts .originals) (counts .n) (counts .m) (now (q .entry)) (now (c .entry)) (now (e .entry)) (now (b .entry))) segments
-        (now (fixed .entry)) (magnitudes .q) (magnitudes .linear) (now (solved .entry)) (now (slacks .entry)) iterate factoring (now (l .entry)) ⌝ }
+        ≡ Definition.freePass
+        (problem (counts .originals) (counts .n) (counts .m) (now (q .entry)) (now (c .entry)) (now (e .entry)) (now (b .entry)))
+        segments (now (fixed .entry)) (magnitudes .q) (magnitudes .linear) (now (solved .entry)) (now (slacks .entry)) iterate (keptOf factoring)
+        (now (l .entry)) ⌝ }
     ensures { λ r. ⌜ Kept (counts .n) segments (r .passed .iterate) × Good (counts .originals) (r .factoring) (now (l .exit)) ⌝ }
 {
     let n = counts.n;
@@ -222,8 +224,8 @@ fn pass_over(
         × Good (counts .originals) factoring (now l)
         × (counts .originals * counts .originals ≤ length (now l)) ⌝ }
     ensures { λ r. ⌜ madeOf (counts .n) (counts .m) r (now (l .exit))
-        ≡ Definition.pass (problem (counts .originals) (counts .n) (counts .m) (now (q .entry)) (now (c .entry)) (now (e .entry)) (now (b .entry))) segments
-        (now (fixed .entry)) (magnitudes .q) (magnitudes .linear) (state iterate factoring (now (l .entry))) ⌝ }
+        ≡ Definition.pass (problem (counts .originals) (counts .n) (counts .m) (now (q .entry)) (now (c .entry)) (now (e .entry)) (now (b .entry)))
+        segments (now (fixed .entry)) (magnitudes .q) (magnitudes .linear) (state iterate (keptOf factoring) (now (l .entry))) ⌝ }
     ensures { λ r. ⌜ Kept (counts .n) segments (r .passed .iterate) × Good (counts .originals) (r .factoring) (now (l .exit)) ⌝ }
 {
     let n = counts.n;
@@ -284,8 +286,8 @@ pub fn pass(
         × Good (counts .originals) factoring (now l)
         × (counts .originals * counts .originals ≤ length (now l)) ⌝ }
     ensures { λ r. ⌜ madeOf (counts .n) (counts .m) r (now (l .exit))
-        ≡ Definition.pass (problem (counts .originals) (counts .n) (counts .m) (now (q .entry)) (now (c .entry)) (now (e .entry)) (now (b .entry))) segments
-        (now (fixed .entry)) (magnitudes .q) (magnitudes .linear) (state iterate factoring (now (l .entry))) ⌝ }
+        ≡ Definition.pass (problem (counts .originals) (counts .n) (counts .m) (now (q .entry)) (now (c .entry)) (now (e .entry)) (now (b .entry)))
+        segments (now (fixed .entry)) (magnitudes .q) (magnitudes .linear) (state iterate (keptOf factoring) (now (l .entry))) ⌝ }
     ensures { λ r. ⌜ Kept (counts .n) segments (r .passed .iterate) × Good (counts .originals) (r .factoring) (now (l .exit)) ⌝ }
 {
     let board = iterate.board;

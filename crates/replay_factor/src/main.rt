@@ -131,7 +131,8 @@ fn update(s: &[u8], q: &[f64], n: usize, originals: usize, l: &mut [f64], w: Seq
 }
 
 fn reset(s: &[u8], w: Sequence) -> Sequence
-    ensures { λ r. ⌜ r .kept ≡ Kept.reset (w .kept) ⌝ }
+    ensures { λ r. ⌜ Kept.keptOf (r .kept) ≡ Kept.reset (Kept.keptOf (w .kept)) ⌝ }
+    ensures { λ r. ⌜ (Kept.Fits (w .kept) → Kept.Fits (r .kept)) ⌝ }
 {
     let mut then = w;
     let kept = w.kept;

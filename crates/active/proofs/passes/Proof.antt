@@ -2,7 +2,7 @@ use Rattle.folds.specs.Kit.{_≡_, _+_, _-_, _≤_, refl, sym, _∙_, arith, ki
 use Rattle.sizes.specs.Sizes as Sizes
 use Rattle.iterate.specs.Problem.{problem}
 use Rattle.iterate.specs.Iterate.{Kept}
-use Rattle.factoring.specs.Kept.{Good}
+use Rattle.factoring.specs.Kept.{keptOf, Good}
 use Rattle.factoring.specs.Laws.{good-new}
 use Rattle.pass.specs.State.{state}
 use Rattle.active.specs.Active.{budget, passes}
@@ -18,7 +18,7 @@ Inv-loop segments fixed q c e b counts magnitudes room₀ q-free₀ e-free₀ gr
     × Same room q-free e-free gram l room₀ q-free₀ e-free₀ gram₀ l₀
     × Kept (counts .n) segments at
     × Good (counts .originals) factoring l
-    × (Left p segments fixed (magnitudes .q) (magnitudes .linear) made (state at factoring l) ≡
+    × (Left p segments fixed (magnitudes .q) (magnitudes .linear) made (state at (keptOf factoring) l) ≡
     passes p segments fixed (magnitudes .q) (magnitudes .linear) at₀ l₀)
 
 abbrev μ-loop : tie.MeasureT-loop
@@ -97,8 +97,8 @@ passes-spec =
       omega arith,
       record { of-room = refl; of-q = refl; of-e = refl; of-gram = refl; of-l = refl },
       search kit,
-      rw e (good-new _ _),
-      all-left _ _ _ _ _ _ _ _ _ _ _ _ _ e,
+      good-new _ _ _ (e .0) (e .1),
+      all-left _ _ _ _ _ _ _ _ _ _ _ _ _ (e .0),
     ))  -- loop-holds
     pass-requires
     (λ c κs. search kit)  -- goes-on-requires

@@ -8,6 +8,7 @@ unfolding definite passing
 definite-spec =
     tie.close
     (tie.spec (λ c κs. search kit) (λ c κs. search kit) (λ c. search kit)
-    (λ c. rw (← c .before .before .before .before .before .cholesky .ensures, c .before .before .if1 .taken, c .positive-definite .ensures))  -- returns
+    (λ c. let b = c .before .before in
+    rw (← b .before .before .before .cholesky .ensures, b .if1 .taken, c .positive-definite .ensures))  -- returns
     (λ c. search kit)
     (λ c. rw (← c .before .before .before .cholesky .ensures, c .if1 .left)))  -- returns-2

@@ -1,9 +1,8 @@
 use Rattle.folds.specs.Kit.{_≡_, refl, _∙_, _-_, _≤_, length, set, fold, over, kit, over-tab}
-use Rattle.folds.specs.Tab.{tab-all}
+use Rattle.folds.specs.Tab.{tab-all, taken-over}
 use lib.ListN.{replicate}
 use Rattle.sizes.specs.Sizes as Sizes
 use Rattle.matrix.specs.Matrix.{index}
-use Rattle.factoring.specs.Kept.{toVec}
 use Rattle.factoring.proofs.to_vec.Statement.{statement}
 use Rattle.factoring.proofs.to_vec.Tie as tie
 
@@ -14,14 +13,13 @@ abbrev μ-loop : tie.MeasureT-loop
 μ-loop indices list₀ i₀ i-end list i = length indices - i
 
 returns : tie.Need-returns Inv-loop μ-loop
-unfolding toVec
 returns c =
     let at = c .before .loop in
     let s = c .before .before in
     let e : at .list ≡ over (s .args .indices .now) (replicate Sizes.originals 0) =
     over-tab _ _ _ _ (at .inv .0) (c .loop-test .left) (s .pre) (at .inv .1)
     ∙ rw (tab-all 0 (length (s .args .indices .now)) (s .args .indices .now) refl) in
-    rw e
+    (taken-over _ _ refl e, s .pre)
 
 pub to-vec-spec : {M : Type 1} → statement M
 to-vec-spec =

@@ -1,4 +1,5 @@
 use Rattle.folds.specs.Kit.{kit, pick}
+use Rattle.factoring.specs.Laws.{some-listed, none-listed}
 use Rattle.factored.specs.Laws.{found-is}
 use Rattle.free_solve.specs.FreeSolve.{fromFactor}
 use Rattle.free_solve.proofs.from_factor.Statement.{statement}
@@ -14,5 +15,6 @@ from-factor-spec =
     (p .0, p .1 .holds, p .1 .diagonal (t .if1 .taken), p .2, p .3))  -- solve-factored-requires
     (λ c. search kit)  -- same-length
     (λ c. search kit)  -- same-length-2
-    (λ c. let s = c .before .before .before .before in rw (s .before .before .before .if1 .taken) (s .solve-factored .ensures))  -- returns
-    (λ c. rw (c .if1 .left) (found-is _ _ _)))  -- returns-2
+    (λ c held. let s = c .before .before .before .before in
+    rw (some-listed held (s .before .before .before .if1 .taken)) (s .solve-factored .ensures))  -- returns
+    (λ c held. rw (none-listed held (c .if1 .left)) (found-is _ _ _)))  -- returns-2

@@ -5,7 +5,7 @@ use Rattle.folds.specs.Cell.{area}
 use Rattle.sizes.specs.Sizes as Sizes
 use Rattle.factor.specs.Laws.{listed-few}
 use Rattle.free_problem.specs.Laws.{parts}
-use Rattle.free_solve.specs.Laws.{good-left, free-system, free-from, good-solve, regular-from}
+use Rattle.free_solve.specs.Laws.{free-system, free-from, regular-from}
 use Rattle.free_solve.proofs.solve_free.Statement.{statement}
 use Rattle.free_solve.proofs.solve_free.Tie as tie
 
@@ -42,7 +42,7 @@ solve-updated-requires c κs =
         e-holds = rw (length-take-le _ _ (p .3)) (le-refl _);
         b-holds = rw (length-take-le _ _ (held s .1)) (le-refl _);
       },
-      regular-from _ (a .block .few) _ _ _ _ _ (a .rises) (a .good) (u .updated .ensures .0)
+      regular-from _ (a .block .few) _ _ _ (a .rises) _ _ (a .good) _ (u .updated .ensures .0)
           (omega (arith, area (listed s) (listed s), a .l-holds, u .updated .kept .1 .1 .1 .1 .1 .0)),
       rw (u .updated .kept .1 .1 .1 .1 .1 .1 .0) (p .4),
       p .5,
@@ -53,10 +53,9 @@ returns c =
     let a = c .before .before .before .before in
     let u = updated (a .before .before .before .before .before .before) in
     let s = start u in
-    let p = s .pre .0 in
-    let g = u .updated .ensures .0 in
-    let e = free-from _ _ _ _ _ _ g (free-system _ _ _ _ _ (held s .2)) (parts _ _ _ _ _ .noise-is) (a .solve-updated .ensures) in
-    (e, good-left _ _ _ _ _ e _ (good-solve _ (p .block .few) _ _ _ _ _ (p .rises) (p .good) g _))
+    let g = u .updated .ensures in
+    let e = a .solve-updated .ensures in
+    (free-from _ _ _ _ _ _ (g .0) (free-system _ _ _ _ _ (held s .2)) (parts _ _ _ _ _ .noise-is) (e .0), e .1 _ (g .1))
 
 pub solve-free-spec : {M : Type 1} → statement M
 solve-free-spec =

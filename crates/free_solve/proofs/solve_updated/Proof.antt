@@ -1,4 +1,5 @@
 use Rattle.folds.specs.Kit.{needs}
+use Rattle.factoring.specs.Laws.{good-reset}
 use Rattle.free_solve.specs.Laws.{after-found, after-missed}
 use Rattle.free_solve.proofs.solve_updated.Statement.{statement}
 use Rattle.free_solve.proofs.solve_updated.Tie as tie
@@ -9,7 +10,10 @@ asked c = c .before .before .before .before .before .before
 returns-2 : tie.Need-returns-2
 returns-2 c =
     let t = c .before .before in
-    after-missed _ _ _ _ _ _ _ (asked (t .before) .from-factor .ensures) _ (t .if1 .left) (c .before .solve-noisy-kkt .ensures) (c .dropped .ensures)
+    let d = c .dropped .ensures in (
+      after-missed _ _ _ _ _ _ _ (asked (t .before) .from-factor .ensures _) _ _ (t .if1 .left) (c .before .solve-noisy-kkt .ensures) (d .0),
+      λ o g. good-reset o _ _ _ (d .0) (d .1) g,
+    )
 
 pub solve-updated-spec : {M : Type 1} → statement M
 solve-updated-spec =
@@ -18,7 +22,7 @@ solve-updated-spec =
     (λ c κs. search needs)  -- from-factor-requires
     (λ c. search needs)  -- same-length
     (λ c. search needs)  -- same-length-2
-    (λ c. after-found _ _ _ _ _ _ _ (asked (c .before) .from-factor .ensures) (c .if1 .taken))  -- returns
+    (λ c. (after-found _ _ _ _ _ _ _ (asked (c .before) .from-factor .ensures _) (c .if1 .taken), λ o g. g))  -- returns
     (λ c κs. search needs)  -- solve-noisy-kkt-requires
     (λ c κs. search needs)  -- dropped-requires
     (λ c. search needs)  -- same-length-3

@@ -21,8 +21,8 @@ solve-piecewise-in-units-requires c κs =
       p .0,
       p .1,
       p .2,
-      room-of {x = Sizes.originals} {y = Sizes.variables} {z = Sizes.columns} _ _ _ _ (p .0 .few) (p .0 .variables) (omega arith) (omega arith) (omega arith) (omega arith)
-          (omega arith) (omega arith),
+      room-of {x = Sizes.originals} {y = Sizes.variables} {z = Sizes.columns} _ _ _ _ (p .0 .few) (p .0 .variables)
+          (omega arith) (omega arith) (omega arith) (omega arith) (omega arith) (omega arith),
       take-zeros _ _ (square-fits s),
     )
 

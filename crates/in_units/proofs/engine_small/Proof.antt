@@ -21,8 +21,8 @@ solve-piecewise-in-units-requires c κs =
       p .0,
       p .1,
       p .2,
-      room-of {x = Sizes.few} {y = Sizes.few + Sizes.few} {z = Sizes.equalities + Sizes.few} _ _ _ _ (p .5) (omega arith) (omega arith) (omega arith) (omega arith) (omega arith)
-          (omega arith) (omega arith),
+      room-of {x = Sizes.few} {y = Sizes.few + Sizes.few} {z = Sizes.equalities + Sizes.few} _ _ _ _ (p .5)
+          (omega arith) (omega arith) (omega arith) (omega arith) (omega arith) (omega arith) (omega arith),
       take-zeros _ _ (square-fits s),
     )
 

@@ -44,9 +44,9 @@ returns : tie.Need-returns
 returns c =
     let g = gave c in
     let a = setup (g .before) .before in
-    units-from _ _ _ _ _ _ _ _ _ (taken-over _ _ (length-allFixed _ _) (first a .all-fixed .ensures)) (a .before .before .before .before .amax .ensures)
-    (a .before .before .before .amax2 .ensures) (a .before .before .slope-amax .ensures) (a .before .max .ensures) (a .started .ensures)
-    (start (first a) .pre .4) (g .passes .ensures)
+    units-from _ _ _ _ _ _ _ _ _ (taken-over _ _ (length-allFixed _ _) (first a .all-fixed .ensures))
+    (a .before .before .before .before .amax .ensures) (a .before .before .before .amax2 .ensures)
+    (a .before .before .slope-amax .ensures) (a .before .max .ensures) (a .started .ensures) (start (first a) .pre .4) (g .passes .ensures)
 
 pub solve-piecewise-in-units-spec : {M : Type 1} → statement M
 solve-piecewise-in-units-spec =

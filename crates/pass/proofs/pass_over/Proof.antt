@@ -24,8 +24,8 @@ returns c =
     let p = s .pre in
     let e = c .without-free .ensures in (
       made-beside _ _ _ _
-          ∙ pass-without _ _ _ _ _ _ _ _ _ _ _ (s .args .indices .now) _ _ _ (s .args .b .now) (p .4) (d .split-slacks .ensures) (c .before .if1 .taken)
-          (e .0 _ (p .0 .columns)),
+          ∙ pass-without _ _ _ _ _ _ _ _ _ _ _ (s .args .indices .now) _ _ _ (s .args .b .now) (p .4) (d .split-slacks .ensures)
+          (c .before .if1 .taken) (e .0 _ (p .0 .columns)),
       (e .1, p .6),
     )
 

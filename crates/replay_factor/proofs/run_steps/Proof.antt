@@ -21,14 +21,15 @@ run-steps-spec =
     Inv-loop
     μ-loop
     (λ c κs. search needs)  -- new-requires
-    (λ c. (omega arith, refl, rw (c .new .ensures) (good-new _ _)))  -- loop-holds
+    (λ c. (omega arith, refl, good-new _ _ _ (c .new .ensures .0) (c .new .ensures .1)))  -- loop-holds
     (λ c κs.
     let p = c .before .before .before .before .before .before .before .pre in
     let i = c .before .before .loop .inv in
     (p .0, p .1, i .2, rw (i .1) (p .2)))  -- step-requires
     (λ c. search needs)  -- add-counter
     (λ c. search needs)  -- loop-less
-    (λ c. (omega arith, c .before .l .given ∙ c .before .before .before .before .before .loop .inv .1, c .before .before .step .ensures))  -- loop-again
+    (λ c. let b = c .before in
+    (omega arith, b .l .given ∙ b .before .before .before .before .loop .inv .1, b .before .step .ensures))  -- loop-again
     (λ c κs. search needs)  -- one-if-requires
     (λ c κs. search needs)  -- wrapping-add-usize-requires
     (λ c κs. search needs)  -- differing-requires

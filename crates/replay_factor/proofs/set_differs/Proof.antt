@@ -24,7 +24,8 @@ set-differs-spec =
     (λ c. search needs)  -- returns
     (λ c. omega (arith, c .if1 .left, list-length (c .before .before .before .before .before .before)))  -- array-share-prefix-list
     (λ c. let t = c .before in
-    sym (length-take-le _ _ (omega (arith, t .if1 .left, list-length (t .before .before .before .before .before .before)))))  -- slice-aggregate-lists-differ
+    let s = t .before .before .before .before .before .before in
+    sym (length-take-le _ _ (omega (arith, t .if1 .left, list-length s))))  -- slice-aggregate-lists-differ
     (λ c. omega (arith, few (c .before .before .before .before)))  -- array-share-prefix-set
     (λ c. sym (length-take-le _ _ (omega (arith, few (c .before .before .before .before .before)))))  -- slice-aggregate-lists-differ-2
     (λ c κs. search needs)  -- lists-differ-requires

@@ -12,4 +12,5 @@ step-spec =
     (λ c. search needs)  -- same-length
     (λ c. search needs)  -- returns
     (λ c κs. search needs)  -- reset-requires
-    (λ c. rw (c .reset .ensures) (good-reset _ _ _ (c .before .before .before .before .before .before .pre .2))))  -- returns-2
+    (λ c. let e = c .reset .ensures in
+    good-reset _ _ _ _ (e .0) (e .1) (c .before .before .before .before .before .before .pre .2)))  -- returns-2

@@ -2,8 +2,8 @@ use Rattle.folds.specs.Kit.{_≡_, _≤_, arith, length, kit}
 use Rattle.folds.specs.Cell.{area}
 use native.Mathlib.Nat.{le-refl}
 use Rattle.factor.specs.Laws.{listed-few, listed-below}
-use Rattle.factoring.specs.Kept.{Factor, factor, update, settled}
-use Rattle.factoring.specs.Laws.{update-good}
+use Rattle.factoring.specs.Kept.{Factor, factor, update, settled, keptOf}
+use Rattle.factoring.specs.Laws.{held-fitting, singular-bounded, update-good}
 use Rattle.factoring.proofs.Factoring.update.Statement.{statement}
 use Rattle.factoring.proofs.Factoring.update.Tie as tie
 
@@ -20,48 +20,49 @@ last-updated-requires c κs =
         l-holds = p .l-holds;
         room-holds = omega (arith, area (le-refl (s .args .originals)) (p .block .within), p .room-holds);
       },
-      p .good .held,
+      held-fitting _ _ (p .good),
       p .rises,
     )
 
 afresh-requires : tie.Need-afresh-requires
 afresh-requires c κs =
     let s = c .before .before .before .before .before .before .before .before .before .before .before .before .before .before .before in
-    let p = s .pre in
-    let k = p .good .singular in (
+    let p = s .pre in (
       p .block .q-holds,
       omega (arith, listed s, p .block .few),
       listed-below _ _ (p .rises) _ (p .block .few),
       listed-below _ _ (p .rises) _ (p .block .within),
-      record { fits = k .fits; below = listed-below _ _ (k .rises) _ (p .block .few) },
+      singular-bounded _ _ (p .good) (p .block .few),
       omega (arith, area (listed s) (listed s), p .l-holds),
       omega (arith, area (listed s) (le-refl (s .args .n)), p .room-holds),
     )
 
 abbrev updated : tie.Start → Factor
-updated s = update (s .args .q .now) (s .args .n) (s .args .indices .now) (s .args .self) (s .args .l .now)
+updated s = update (s .args .q .now) (s .args .n) (s .args .indices .now) (keptOf (s .args .self)) (s .args .l .now)
 
 returns : tie.Need-returns
-unfolding update settled
+unfolding update settled keptOf
 returns c =
     let u = c .before .before .before .before .before .before in
     let s = c .before .before .before .before .before .before .before .before .before .before .before .before .before .before in
-    let e : factor (c .with-factor .result) (u .last-updated .last .1 .1 .1 .1 .1 .1 .0) ≡ updated s = rw (
+    let h = c .with-factor .ensures in
+    let e : factor (keptOf (c .with-factor .result)) (u .last-updated .last .1 .1 .1 .1 .1 .1 .0) ≡ updated s = rw (
       ← u .last-updated .ensures,
       c .before .if1 .taken,
-      c .with-factor .ensures,
+      h .0,
     ) in
-    (e, update-good _ (s .pre .block .few) _ _ _ _ _ (s .pre .rises) (s .pre .good) e)
+    (e, update-good _ (s .pre .block .few) _ _ _ (s .pre .rises) _ _ (s .pre .good) _ e (h .1 (s .pre .good .fits)))
 
 returns-2 : tie.Need-returns-2
-unfolding update settled
+unfolding update settled keptOf
 returns-2 c =
     let a = c .before .before .before .before in
     let u = c .before .before .before .before .before .before .before .before .before .before .before .before in
     let s = u .before .before .before .before .before .before .before .before in
-    let e : factor (a .afresh .result) (a .afresh .last .1 .1 .1 .1 .0) ≡ updated s =
-    rw (← u .last-updated .ensures, c .before .before .before .before .before .before .before .if1 .left) (a .afresh .ensures) in
-    (e, update-good _ (s .pre .block .few) _ _ _ _ _ (s .pre .rises) (s .pre .good) e)
+    let h = a .afresh .ensures in
+    let e : factor (keptOf (a .afresh .result)) (a .afresh .last .1 .1 .1 .1 .0) ≡ updated s =
+    rw (← u .last-updated .ensures, c .before .before .before .before .before .before .before .if1 .left) (h .0) in
+    (e, update-good _ (s .pre .block .few) _ _ _ (s .pre .rises) _ _ (s .pre .good) _ e (h .1 (s .pre .good .fits)))
 
 pub update-spec : {M : Type 1} → statement M
 update-spec =
