@@ -13,13 +13,13 @@ use Rattle.factoring.specs.Kept.{Kept, new, keptOf}
 use Rattle.pass.specs.declared.Made.{Made}
 use Rattle.pass.specs.State.{State, state, madeOf, made-beside}
 use Rattle.pass.specs.Pass.{pass}
-use Rattle.active.specs.declared.Answer as Declared
-use Rattle.active.specs.declared.Verdict.the-variants.{NotConverged}
-use Rattle.active.specs.Answer.{Answer, answerOf}
+use Rattle.active.specs.declared.Minimum as Declared
+use Rattle.active.specs.declared.SolveVerdict.the-variants.{NotConverged}
+use Rattle.active.specs.Minimized.{Minimized, minimizedOf}
 use Rattle.active.specs.Active.{step, goesOn, Ends, spent, budget, passes}
-use Rattle.active.specs.Laws.{counted-more, answerOf-notConverged}
+use Rattle.active.specs.Laws.{counted-more, minimizedOf-notConverged}
 
-unfoldable pub Left : Problem → (segments : List Segments) (fixed : List Bool) (qAmax linear : Float) (made : ℕ) (s : State) → Answer
+unfoldable pub Left : Problem → (segments : List Segments) (fixed : List Bool) (qAmax linear : Float) (made : ℕ) (s : State) → Minimized
 Left (problem originals n m q c e b) segments fixed qAmax linear made s =
     run (step (problem originals n m q c e b) segments fixed qAmax linear) spent (budget n - made) made (more s)
 
@@ -32,10 +32,10 @@ module _ (originals n m : ℕ) (q c e b : List Float) (segments : List Segments)
   unfolding Left passes
   all-left i l e = rw e (run-all _ _ (budget n) (state i new l))
 
-  module _ (s : State) (made : ℕ) {r : Answer} (left : Left p segments fixed qAmax linear made s ≡ r) where
-    pub all-spent : (a : Declared.Answer) → budget n ≤ made → a .verdict ≡ NotConverged → answerOf n m a ≡ r
+  module _ (s : State) (made : ℕ) {r : Minimized} (left : Left p segments fixed qAmax linear made s ≡ r) where
+    pub all-spent : (a : Declared.Minimum) → budget n ≤ made → a .verdict ≡ NotConverged → minimizedOf n m a ≡ r
     unfolding Left
-    all-spent a h v = answerOf-notConverged n m a v ∙ run-spent _ _ (budget n) made s h ∙ left
+    all-spent a h v = minimizedOf-notConverged n m a v ∙ run-spent _ _ (budget n) made s h ∙ left
 
     -- after a pass
     module _ (t : Made) (l : List Float) (under : made < budget n) (gave : madeOf n m t l ≡ pass p segments fixed qAmax linear s) where
@@ -44,7 +44,7 @@ module _ (originals n m : ℕ) (q c e b : List Float) (segments : List Segments)
       unfolding Left step
       again g = run-more _ _ (budget n) made s _ under (rw (← gave, made-beside) (counted-more (t .passed) (made + 1) n m _ l g)) ∙ left
 
-      pub ended : (a : Declared.Answer) → Ends (t .passed) (made + 1) a → answerOf n m a ≡ r
+      pub ended : (a : Declared.Minimum) → Ends (t .passed) (made + 1) a → minimizedOf n m a ≡ r
       unfolding Left step
       ended a f = run-done _ _ (budget n) made s under (rw (← gave, made-beside) (f n m _ l)) ∙ left
 

@@ -22,53 +22,53 @@ use Rattle.iterate.specs.declared.Ending.the-variants as Ending
 use Rattle.iterate.specs.declared.Passed.{Passed}
 use Rattle.pass.specs.State.{State, state, beside, beside-more, beside-done}
 use Rattle.pass.specs.Pass.{pass}
-use Rattle.active.specs.declared.Verdict.{Verdict}
-use Rattle.active.specs.declared.Verdict.the-variants.{Optimal, NonFiniteCovariance, SingularCovariance, Unbounded, NotConverged}
-use Rattle.active.specs.declared.Answer as Declared
-use Rattle.active.specs.Answer.{Answer, optimal, nonFinite, singular, unbounded, notConverged, answer, answerOf}
+use Rattle.active.specs.declared.SolveVerdict.{SolveVerdict}
+use Rattle.active.specs.declared.SolveVerdict.the-variants.{Optimal, NonFiniteCovariance, SingularCovariance, Unbounded, NotConverged}
+use Rattle.active.specs.declared.Minimum as Declared
+use Rattle.active.specs.Minimized.{Minimized, optimal, nonFinite, singular, unbounded, notConverged, minimized, minimizedOf}
 use Rattle.active.specs.Active.{counted, step, goesOn, Ends, budget, spent, passes}
 
 module _ (x multipliers : List Float) (passes : ℕ) where
-  pub answer-optimal : answer Optimal x multipliers passes ≡ optimal x multipliers passes
-  unfolding answer
-  answer-optimal = refl
+  pub minimized-optimal : minimized Optimal x multipliers passes ≡ optimal x multipliers passes
+  unfolding minimized
+  minimized-optimal = refl
 
-  pub answer-nonFinite : answer NonFiniteCovariance x multipliers passes ≡ nonFinite
-  unfolding answer
-  answer-nonFinite = refl
+  pub minimized-nonFinite : minimized NonFiniteCovariance x multipliers passes ≡ nonFinite
+  unfolding minimized
+  minimized-nonFinite = refl
 
-  pub answer-singular : answer SingularCovariance x multipliers passes ≡ singular
-  unfolding answer
-  answer-singular = refl
+  pub minimized-singular : minimized SingularCovariance x multipliers passes ≡ singular
+  unfolding minimized
+  minimized-singular = refl
 
-  pub answer-unbounded : answer Unbounded x multipliers passes ≡ unbounded
-  unfolding answer
-  answer-unbounded = refl
+  pub minimized-unbounded : minimized Unbounded x multipliers passes ≡ unbounded
+  unfolding minimized
+  minimized-unbounded = refl
 
-  pub answer-notConverged : answer NotConverged x multipliers passes ≡ notConverged
-  unfolding answer
-  answer-notConverged = refl
+  pub minimized-notConverged : minimized NotConverged x multipliers passes ≡ notConverged
+  unfolding minimized
+  minimized-notConverged = refl
 
-module _ (n m : ℕ) (r : Declared.Answer) where
-  pub answerOf-answer : answerOf n m r ≡ answer (r .verdict) (take n (r .x)) (take m (r .multipliers)) (r .passes)
-  unfolding answerOf
-  answerOf-answer = refl
+module _ (n m : ℕ) (r : Declared.Minimum) where
+  pub minimizedOf-minimized : minimizedOf n m r ≡ minimized (r .verdict) (take n (r .x)) (take m (r .multipliers)) (r .passes)
+  unfolding minimizedOf
+  minimizedOf-minimized = refl
 
   -- by its verdict
-  pub answerOf-optimal : r .verdict ≡ Optimal → answerOf n m r ≡ optimal (take n (r .x)) (take m (r .multipliers)) (r .passes)
-  answerOf-optimal e = answerOf-answer ∙ rw (e, answer-optimal)
+  pub minimizedOf-optimal : r .verdict ≡ Optimal → minimizedOf n m r ≡ optimal (take n (r .x)) (take m (r .multipliers)) (r .passes)
+  minimizedOf-optimal e = minimizedOf-minimized ∙ rw (e, minimized-optimal)
 
-  pub answerOf-nonFinite : r .verdict ≡ NonFiniteCovariance → answerOf n m r ≡ nonFinite
-  answerOf-nonFinite e = answerOf-answer ∙ rw (e, answer-nonFinite)
+  pub minimizedOf-nonFinite : r .verdict ≡ NonFiniteCovariance → minimizedOf n m r ≡ nonFinite
+  minimizedOf-nonFinite e = minimizedOf-minimized ∙ rw (e, minimized-nonFinite)
 
-  pub answerOf-singular : r .verdict ≡ SingularCovariance → answerOf n m r ≡ singular
-  answerOf-singular e = answerOf-answer ∙ rw (e, answer-singular)
+  pub minimizedOf-singular : r .verdict ≡ SingularCovariance → minimizedOf n m r ≡ singular
+  minimizedOf-singular e = minimizedOf-minimized ∙ rw (e, minimized-singular)
 
-  pub answerOf-unbounded : r .verdict ≡ Unbounded → answerOf n m r ≡ unbounded
-  answerOf-unbounded e = answerOf-answer ∙ rw (e, answer-unbounded)
+  pub minimizedOf-unbounded : r .verdict ≡ Unbounded → minimizedOf n m r ≡ unbounded
+  minimizedOf-unbounded e = minimizedOf-minimized ∙ rw (e, minimized-unbounded)
 
-  pub answerOf-notConverged : r .verdict ≡ NotConverged → answerOf n m r ≡ notConverged
-  answerOf-notConverged e = answerOf-answer ∙ rw (e, answer-notConverged)
+  pub minimizedOf-notConverged : r .verdict ≡ NotConverged → minimizedOf n m r ≡ notConverged
+  minimizedOf-notConverged e = minimizedOf-minimized ∙ rw (e, minimized-notConverged)
 
 -- ---- a pass goes on, or ends in an answer
 goes-more : (e : Ending) → goesOn e ≡ true → e ≡ Ending.More
@@ -94,28 +94,28 @@ module _ (p : Passed) (passes : ℕ) where
       Ends p passes (record { verdict = Optimal; x = p .iterate .board .x; multipliers = p .multipliers; passes = passes })
   unfolding counted
   ends-optimal e n m f l =
-      let r : Declared.Answer = record { verdict = Optimal; x = p .iterate .board .x; multipliers = p .multipliers; passes = passes } in
-      rw (passed-optimal n m p e, beside-done, answerOf-optimal n m r refl)
+      let r : Declared.Minimum = record { verdict = Optimal; x = p .iterate .board .x; multipliers = p .multipliers; passes = passes } in
+      rw (passed-optimal n m p e, beside-done, minimizedOf-optimal n m r refl)
 
-  module _ (r : Declared.Answer) where
+  module _ (r : Declared.Minimum) where
     pub ends-nonFinite : p .ending ≡ Ending.NonFiniteCovariance → r .verdict ≡ NonFiniteCovariance → Ends p passes r
     unfolding counted
-    ends-nonFinite e v n m f l = rw (passed-nonFinite n m p e, beside-done, answerOf-nonFinite n m r v)
+    ends-nonFinite e v n m f l = rw (passed-nonFinite n m p e, beside-done, minimizedOf-nonFinite n m r v)
 
     pub ends-singular : p .ending ≡ Ending.SingularCovariance → r .verdict ≡ SingularCovariance → Ends p passes r
     unfolding counted
-    ends-singular e v n m f l = rw (passed-singular n m p e, beside-done, answerOf-singular n m r v)
+    ends-singular e v n m f l = rw (passed-singular n m p e, beside-done, minimizedOf-singular n m r v)
 
     pub ends-unbounded : p .ending ≡ Ending.Unbounded → r .verdict ≡ Unbounded → Ends p passes r
     unfolding counted
-    ends-unbounded e v n m f l = rw (passed-unbounded n m p e, beside-done, answerOf-unbounded n m r v)
+    ends-unbounded e v n m f l = rw (passed-unbounded n m p e, beside-done, minimizedOf-unbounded n m r v)
 
     pub ends-notConverged : p .ending ≡ Ending.NotConverged → r .verdict ≡ NotConverged → Ends p passes r
     unfolding counted
-    ends-notConverged e v n m f l = rw (passed-notConverged n m p e, beside-done, answerOf-notConverged n m r v)
+    ends-notConverged e v n m f l = rw (passed-notConverged n m p e, beside-done, minimizedOf-notConverged n m r v)
 
 -- ---- the number of passes is from 1 to the budget
-abbrev pub Within : (budget : ℕ) → Answer → Type 0
+abbrev pub Within : (budget : ℕ) → Minimized → Type 0
 Within budget (optimal x multipliers passes) = (1 ≤ passes) × (passes ≤ budget)
 Within budget nonFinite = Unit {0}
 Within budget singular = Unit {0}
@@ -132,7 +132,7 @@ module _ (p : Problem) (segments : List Segments) (fixed : List Bool) (qAmax lin
   counted-within made (done Result.unbounded) h = tt
   counted-within made (done Result.notConverged) h = tt
 
-  run-within : (left made : ℕ) (r : Pass State Answer) → left + made ≤ limit → Run.Kept (λ _. Unit {0}) (Within limit) r →
+  run-within : (left made : ℕ) (r : Pass State Minimized) → left + made ≤ limit → Run.Kept (λ _. Unit {0}) (Within limit) r →
       Within limit (run (step p segments fixed qAmax linear) spent left made r)
   unfolding run step Run.Kept
   run-within zero made (done a) h k = k
@@ -149,22 +149,22 @@ passes-within originals n m q c e b segments fixed qAmax linear i l =
     run-within (problem originals n m q c e b) segments fixed qAmax linear (budget n) (budget n) 0 (more (state i new l)) (omega arith) tt
 
 -- ---- an optimal answer has x's n entries and m multipliers
-abbrev pub Filled : (n m : ℕ) → Answer → Type 0
+abbrev pub Filled : (n m : ℕ) → Minimized → Type 0
 Filled n m (optimal x multipliers passes) = (length x ≡ n) × (length multipliers ≡ m)
 Filled n m nonFinite = Unit {0}
 Filled n m singular = Unit {0}
 Filled n m unbounded = Unit {0}
 Filled n m notConverged = Unit {0}
 
-module _ (n m : ℕ) (r : Declared.Answer) (x-holds : n ≤ length (r .x)) (multipliers-hold : m ≤ length (r .multipliers)) where
-  answer-filled : (v : Verdict) → Filled n m (answer v (take n (r .x)) (take m (r .multipliers)) (r .passes))
-  unfolding answer
-  answer-filled Optimal = (length-take-le n (r .x) x-holds, length-take-le m (r .multipliers) multipliers-hold)
-  answer-filled NonFiniteCovariance = tt
-  answer-filled SingularCovariance = tt
-  answer-filled Unbounded = tt
-  answer-filled NotConverged = tt
+module _ (n m : ℕ) (r : Declared.Minimum) (x-holds : n ≤ length (r .x)) (multipliers-hold : m ≤ length (r .multipliers)) where
+  minimized-filled : (v : SolveVerdict) → Filled n m (minimized v (take n (r .x)) (take m (r .multipliers)) (r .passes))
+  unfolding minimized
+  minimized-filled Optimal = (length-take-le n (r .x) x-holds, length-take-le m (r .multipliers) multipliers-hold)
+  minimized-filled NonFiniteCovariance = tt
+  minimized-filled SingularCovariance = tt
+  minimized-filled Unbounded = tt
+  minimized-filled NotConverged = tt
 
-  pub solve-filled : {a : Answer} → answerOf n m r ≡ a → Filled n m a
-  unfolding answerOf
-  solve-filled e = subst (Filled n m) e (answer-filled (r .verdict))
+  pub solve-filled : {a : Minimized} → minimizedOf n m r ≡ a → Filled n m a
+  unfolding minimizedOf
+  solve-filled e = subst (Filled n m) e (minimized-filled (r .verdict))

@@ -1,3 +1,3 @@
-pub mod Answer
+pub mod Minimized
 pub mod Active
 pub mod Laws

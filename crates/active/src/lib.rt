@@ -8,7 +8,7 @@ ghost use Rattle.sizes.specs.Sizes as Sizes;
 ghost use Rattle.segments.specs.Segments.{AllCut};
 ghost use Rattle.iterate.specs.Problem.{problem, Shaped, Room};
 ghost use Rattle.iterate.specs.Iterate.{Kept};
-ghost use Rattle.active.specs.Answer.{answerOf};
+ghost use Rattle.active.specs.Minimized.{minimizedOf};
 ghost use Rattle.active.specs.Active as Definition;
 use factoring::Factoring;
 use iterate::Counts;
@@ -18,7 +18,7 @@ use iterate::Magnitudes;
 use iterate::Passed;
 use segments::Segments;
 
-pub enum Verdict {
+pub enum SolveVerdict {
     Optimal,
     NonFiniteCovariance,
     SingularCovariance,
@@ -27,17 +27,17 @@ pub enum Verdict {
 }
 
 // x, the multipliers and the number of passes made count where it is Optimal.
-pub struct Answer {
-    pub verdict: Verdict,
+pub struct Minimum {
+    pub verdict: SolveVerdict,
     pub x: [f64; sizes::VARIABLES],
     pub multipliers: [f64; sizes::COLUMNS],
     pub passes: usize,
 }
 
-pub fn refused(verdict: Verdict) -> Answer
+pub fn refused(verdict: SolveVerdict) -> Minimum
     ensures { λ r. ⌜ r .verdict ≡ verdict ⌝ }
 {
-    Answer {
+    Minimum {
         verdict: verdict,
         x: [0.0; sizes::VARIABLES],
         multipliers: [0.0; sizes::COLUMNS],
@@ -59,7 +59,7 @@ fn goes_on(ending: Ending) -> bool
 }
 
 // The answer of the last pass.
-fn answered(passed: Passed, passes: usize) -> Answer
+fn answered(passed: Passed, passes: usize) -> Minimum
     requires { ⌜ Definition.goesOn (passed .ending) ≡ false ⌝ }
     ensures { λ r. ⌜ Definition.Ends passed passes r ⌝ }
 {
@@ -69,17 +69,17 @@ fn answered(passed: Passed, passes: usize) -> Answer
     let x = board.x;
     let multipliers = passed.multipliers;
     match ending {
-        Ending::Optimal => Answer {
-            verdict: Verdict::Optimal,
+        Ending::Optimal => Minimum {
+            verdict: SolveVerdict::Optimal,
             x: x,
             multipliers: multipliers,
             passes: passes,
         },
-        Ending::NonFiniteCovariance => refused(Verdict::NonFiniteCovariance),
-        Ending::SingularCovariance => refused(Verdict::SingularCovariance),
-        Ending::Unbounded => refused(Verdict::Unbounded),
-        Ending::NotConverged => refused(Verdict::NotConverged),
-        Ending::More => refused(Verdict::NotConverged),
+        Ending::NonFiniteCovariance => refused(SolveVerdict::NonFiniteCovariance),
+        Ending::SingularCovariance => refused(SolveVerdict::SingularCovariance),
+        Ending::Unbounded => refused(SolveVerdict::Unbounded),
+        Ending::NotConverged => refused(SolveVerdict::NotConverged),
+        Ending::More => refused(SolveVerdict::NotConverged),
     }
 }
 
@@ -100,14 +100,14 @@ pub fn passes(
     e_free: &mut [f64],
     gram: &mut [f64],
     l: &mut [f64],
-) -> Answer
+) -> Minimum
     requires { ⌜ Shaped (counts .originals) (counts .n) (counts .m) (now q) (now c) (now e) (now b)
         × AllCut (counts .n) segments
         × Kept (counts .n) segments iterate
         × (length (now fixed) ≡ counts .n)
         × Room (counts .originals) (counts .n) (counts .m) (now room) (now «q_free») (now «e_free») (now gram)
         × (counts .originals * counts .originals ≤ length (now l)) ⌝ }
-    ensures { λ r. ⌜ answerOf (counts .n) (counts .m) r
+    ensures { λ r. ⌜ minimizedOf (counts .n) (counts .m) r
         ≡ Definition.passes (problem (counts .originals) (counts .n) (counts .m) (now (q .entry)) (now (c .entry)) (now (e .entry)) (now (b .entry)))
         segments (now (fixed .entry)) (magnitudes .q) (magnitudes .linear) iterate (now (l .entry)) ⌝ }
 {
@@ -141,5 +141,5 @@ pub fn passes(
             return answered(passed, made + 1);
         }
     }
-    refused(Verdict::NotConverged)
+    refused(SolveVerdict::NotConverged)
 }

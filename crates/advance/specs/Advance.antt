@@ -84,9 +84,9 @@ unfoldable pub withBoard : Iterate → Board → Released → Iterate
 withBoard i board released = record { board = board; released = released; freed = i .freed; «freed_at» = i .«freed_at» }
 
 -- `for k in 0..indices.len() { x[indices[k]] = (x_free[k] + step * direction[k]).clamp(lower[k], upper[k]); }`, and `block(..)` of the variable at k
-unfoldable pub stopped : (segments : List Segments) (indices : List ℕ) (xFree direction lower upper : List Float) (step : Float) (k : ℕ) →
+unfoldable pub moveAndBlock : (segments : List Segments) (indices : List ℕ) (xFree direction lower upper : List Float) (step : Float) (k : ℕ) →
     Side → Released → Board → Board
-stopped segments indices xFree direction lower upper step k side released board =
+moveAndBlock segments indices xFree direction lower upper step k side released board =
     let i = index indices k in
     block i side (segmentsAt segments i) step released (segmentOf (stateAt (board .state) i))
     (record { x = moveAlong indices xFree direction step lower upper (board .x); state = board .state; refused = board .refused })
@@ -97,8 +97,8 @@ Keeps indices segments i r =
     (n : ℕ) → Below (length indices) indices n → AllPlaced n segments (i .board .state) → Kept n segments (r .iterate)
 
 -- `released = None; continue;`
-unfoldable pub blocked : Iterate → Board → Pass Iterate Result
-blocked i board = more (withBoard i board NoOne)
+unfoldable pub blockedPass : Iterate → Board → Pass Iterate Result
+blockedPass i board = more (withBoard i board NoOne)
 
 -- ---- the whole step
 -- `if moved { refused.fill(false); }`

@@ -26,7 +26,7 @@ use Rattle.releasing.specs.Laws.{entered as enters}
 use Rattle.releasing.specs.declared.Outcome.the-variants.{Enter}
 use Rattle.iterate.specs.Iterate.{Kept}
 use Rattle.iterate.specs.declared.Iterate.{Iterate}
-use Rattle.advance.specs.Advance.{freeEverything, withBoard, stopped, cleared, settled, gradient, scale, release, entered}
+use Rattle.advance.specs.Advance.{freeEverything, withBoard, moveAndBlock, cleared, settled, gradient, scale, release, entered}
 
 -- the length of an array that a struct holds, as the borrow checker tells it
 pub length-mapped : (X Y : Type 0) (f : X → Y) (l : List X) (n : ℕ) → length (map f l) ≡ n → length l ≡ n
@@ -37,12 +37,12 @@ unfolding gradient
 length-gradient n q c x = length-sub n (mulVec n n q x) c
 
 -- a variable that was free is held at an end of its segment
-pub stopped-placed : (n : ℕ) (segments : List Segments) (indices : List ℕ) (xFree direction lower upper : List Float) (step : Float) (k : ℕ)
+pub moved-placed : (n : ℕ) (segments : List Segments) (indices : List ℕ) (xFree direction lower upper : List Float) (step : Float) (k : ℕ)
     (side : Side) (released : Released) (board : Board) → length (board .state) ≡ Sizes.variables → Listed indices segments (board .state) →
     k < length indices → index indices k < n → AllPlaced n segments (board .state) →
-    AllPlaced n segments (stopped segments indices xFree direction lower upper step k side released board .state)
-unfolding stopped
-stopped-placed n segments indices xFree direction lower upper step k side released board long listed h below placed =
+    AllPlaced n segments (moveAndBlock segments indices xFree direction lower upper step k side released board .state)
+unfolding moveAndBlock
+moved-placed n segments indices xFree direction lower upper step k side released board long listed h below placed =
     let i = index indices k in
     block-placed n segments i side step released (segmentOf (stateAt (board .state) i))
     (record { x = moveAlong indices xFree direction step lower upper (board .x); state = board .state; refused = board .refused })

@@ -117,7 +117,7 @@ fn with_board(iterate: Iterate, board: Board, released: Released) -> Iterate
 }
 
 // Toward a target or along a ray, to where entry k of the free variables reaches an end of its segment, which is held there.
-fn stopped(
+fn move_and_block(
     board: Board,
     segments: [Segments; sizes::VARIABLES],
     indices: &[usize],
@@ -134,7 +134,7 @@ fn stopped(
         × Entries (length (now indices)) (now «x_free») (now direction) (now lower) (now upper)
         × (k < length (now indices)) ⌝ }
     ensures { λ r. ⌜ r
-        ≡ Advance.stopped segments (now (indices .entry)) (now («x_free» .entry)) (now (direction .entry)) (now (lower .entry)) (now (upper .entry))
+        ≡ Advance.moveAndBlock segments (now (indices .entry)) (now («x_free» .entry)) (now (direction .entry)) (now (lower .entry)) (now (upper .entry))
         step k side released board ⌝ }
 {
     let mut x = board.x;
@@ -146,7 +146,7 @@ fn stopped(
 }
 
 // The same, with what the pass before released forgotten.
-pub fn blocked(
+pub fn blocked_pass(
     iterate: Iterate,
     segments: [Segments; sizes::VARIABLES],
     indices: &[usize],
@@ -162,14 +162,14 @@ pub fn blocked(
         × Entries (length (now indices)) (now «x_free») (now direction) (now lower) (now upper)
         × (k < length (now indices)) ⌝ }
     ensures { λ r. ⌜ Advance.Leaves r
-        (Advance.blocked iterate
-        (Advance.stopped segments (now (indices .entry)) (now («x_free» .entry)) (now (direction .entry)) (now (lower .entry)) (now (upper .entry))
+        (Advance.blockedPass iterate
+        (Advance.moveAndBlock segments (now (indices .entry)) (now («x_free» .entry)) (now (direction .entry)) (now (lower .entry)) (now (upper .entry))
         step k side (iterate .released) (iterate .board))) ⌝ }
     ensures { λ r. ⌜ Advance.Keeps (now (indices .entry)) segments iterate r ⌝ }
 {
     let board = iterate.board;
     let released = iterate.released;
-    let next = stopped(
+    let next = move_and_block(
         board,
         segments,
         indices,

@@ -10,7 +10,7 @@ use lib.Ieee.{Float}
 use Rattle.block.specs.Block.{Block}
 use Rattle.block.specs.Ranges.{Ranged}
 use Rattle.format.specs.declared.Block as Held
-use Rattle.cap.specs.Capped.{Answer, Capped, optimal, unbounded, engine, solveTurnoverCapped, Written}
+use Rattle.cap.specs.Capped.{CappedAnswer, Capped, optimal, unbounded, engine, solveTurnoverCapped, Written}
 use Rattle.cap.specs.Laws.{optimal-sized, never-unbounded, engine-answer, optimal-written}
 use Rattle.format.specs.Structs.{blockOf, Sound}
 use Rattle.format.specs.Entries.{words-length, anchors-length, spans-length}
@@ -99,7 +99,7 @@ module _ {b : Held.Block} (S : Sound b) where
         → length μ ≡ b .anchors + b .spans → Written (solveTurnoverCapped p k (length x) (length μ)) n x x' μ μ' l l' r r'
         → Solves b (record { number = n; x = x' ++ xs; multipliers = μ' ++ μs; passes = l'; raise = r' })
     solves {x} {x'} {μ} {μ'} {l} {l'} {r} {r'} {n} xs μs g h W =
-        let A = subst (λ (a : Answer). Written a n x x' μ μ' l l' r r') (block-is g h) W in
+        let A = subst (λ (a : CappedAnswer). Written a n x x' μ μ' l l' r r') (block-is g h) W in
         record {
           numbered = A .numbered;
           optimal-is = λ z.

@@ -11,7 +11,7 @@ use Rattle.format.specs.Structs.{blockOf}
 use Rattle.block_qp.specs.Qp.{hessian, linear, anchorColumns, anchorValues, spanColumns, spanLowers, spanUppers, lowers, uppers, keys, slopes, starts}
 use Rattle.block_qp.specs.Qp.{cap}
 use Rattle.quadratic.specs.Quadratic.{Quadratic, quadratic}
-use Rattle.cap.specs.Capped.{Answer, optimal, engine, solveTurnoverCapped, number}
+use Rattle.cap.specs.Capped.{CappedAnswer, optimal, engine, solveTurnoverCapped, number}
 use Rattle.block_solve.specs.declared.Solved.{Solved}
 
 unfoldable pub quadraticOf : Block → Quadratic
@@ -20,7 +20,7 @@ quadraticOf b =
     (uppers b) (spanColumns b) (spanLowers b) (spanUppers b) (keys b) (slopes b) (starts b)
 
 -- a weight for each word, a multiplier for each anchor and span
-unfoldable pub solveBlock : Block → Answer
+unfoldable pub solveBlock : Block → CappedAnswer
 solveBlock b = solveTurnoverCapped (quadraticOf b) (cap b) (length (b .words)) (length (b .anchors) + length (b .spans))
 
 -- ---- what is gathered of it: the matrices, and the lists of the words

@@ -108,7 +108,7 @@ fn end_passed(x: f64, target: f64, lower: f64, upper: f64, tolerance: f64, k: us
 }
 
 // The first end that the first n entries pass on the way to the target.
-pub fn blocking(
+pub fn first_passed(
     x: &[f64],
     target: &[f64],
     lower: &[f64],
@@ -118,7 +118,7 @@ pub fn blocking(
 ) -> Hit
     requires { ⌜ Entries n (now x) (now target) (now lower) (now upper) ⌝ }
     ensures { λ r. ⌜ r
-        ≡ Blocking.blocking n (now (x .entry)) (now (target .entry)) (now (lower .entry)) (now (upper .entry)) tolerance ⌝ }
+        ≡ Blocking.firstPassed n (now (x .entry)) (now (target .entry)) (now (lower .entry)) (now (upper .entry)) tolerance ⌝ }
 {
     let mut best = Hit::Nothing;
     for k in 0..n {

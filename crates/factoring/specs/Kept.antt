@@ -14,8 +14,8 @@ use Rattle.vector.specs.Vector.{Below}
 use Rattle.matrix.specs.Matrix.{selectRows, selectColumns, index}
 use Rattle.triangular.specs.Triangular.{cholesky, positiveDefinite}
 use Rattle.triangular.specs.Pivots.{Sounds}
-use Rattle.factor.specs.Factor.{Rising, updated}
-use Rattle.factor.specs.Room.{Block}
+use Rattle.factor_update.specs.Factor.{Rising, updated}
+use Rattle.factor_update.specs.Room.{Block}
 use Rattle.factoring.specs.declared.Listed.{Listed}
 use Rattle.factoring.specs.declared.Factoring.{Factoring}
 
@@ -45,8 +45,8 @@ withSingular indices f = record { held = none; singular = some indices }
 
 -- ---- afresh
 -- `q.select_rows(indices).select_columns(indices)`
-unfoldable pub block : (q : List Float) (n : ℕ) (indices : List ℕ) → List Float
-block q n indices = let k = length indices in selectColumns k (selectRows n n q k indices) k indices
+unfoldable pub submatrix : (q : List Float) (n : ℕ) (indices : List ℕ) → List Float
+submatrix q n indices = let k = length indices in selectColumns k (selectRows n n q k indices) k indices
 
 -- `Cholesky::new(a).filter(positive_definite)`, with a k by k
 unfoldable pub passing : (k : ℕ) → Out (List Float) → Out (List Float)
@@ -58,7 +58,7 @@ definite k a = passing k (cholesky k a)
 
 -- of the block, over the start of l
 unfoldable pub fresh : (q : List Float) (n : ℕ) (indices : List ℕ) (l : List Float) → Out (List Float)
-fresh q n indices l = definite (length indices) (over (block q n indices) l)
+fresh q n indices l = definite (length indices) (over (submatrix q n indices) l)
 
 -- `let Some(cholesky) = .. else { self.singular = Some(indices.to_vec()); return None; }`
 unfoldable pub kept : (indices : List ℕ) → Kept → Out (List Float) → Factor

@@ -10,10 +10,10 @@ use Rattle.folds.specs.Fold.{over, pick-keep, false-true, Out, out}
 use Rattle.sizes.specs.Sizes as Sizes
 use Rattle.triangular.specs.Triangular.{cholesky, positiveDefinite, regular}
 use Rattle.triangular.specs.Pivots.{Sounds, definite-sounds, sounds-regular}
-use Rattle.factor.specs.Factor.{Rising}
-use Rattle.factor.specs.Laws.{listed-below}
-use Rattle.factor.specs.Sound.{updated-sound}
-use Rattle.factoring.specs.Kept.{Kept, Factor, factor, new, reset, withFactor, withSingular, block, passing, definite, fresh, kept}
+use Rattle.factor_update.specs.Factor.{Rising}
+use Rattle.factor_update.specs.Laws.{listed-below}
+use Rattle.factor_update.specs.Sound.{updated-sound}
+use Rattle.factoring.specs.Kept.{Kept, Factor, factor, new, reset, withFactor, withSingular, submatrix, passing, definite, fresh, kept}
 use Rattle.factoring.specs.Kept.{containsSingular, afresh, lastUpdated, settled, update, listOf, optionOf, keptOf}
 use Rattle.factoring.specs.Kept.{Bounded, Fitting, Fits, Sound, Good}
 use Rattle.factoring.specs.declared.Listed.{Listed}
@@ -114,7 +114,7 @@ module _ (o : ℕ) where
 
       fresh-sound : (z m : List Float) → fresh q n indices z ≡ out true m → Sounds (length indices) m
       unfolding fresh definite
-      fresh-sound z m e = passing-sound (length indices) (cholesky (length indices) (over (block q n indices) z)) m e
+      fresh-sound z m e = passing-sound (length indices) (cholesky (length indices) (over (submatrix q n indices) z)) m e
 
       sound-kept : (x : Out (List Float)) → ((m : List Float) → x ≡ out true m → Sounds (length indices) m) → Both (kept indices f x)
       unfolding kept

@@ -6,8 +6,8 @@ ghost use lib.ListN.{length};
 ghost use Rattle.folds.specs.Fold.{out};
 ghost use Rattle.sizes.specs.Sizes as Sizes;
 ghost use Rattle.vector.specs.Vector.{Below};
-ghost use Rattle.factor.specs.Factor.{Rising};
-ghost use Rattle.factor.specs.Room.{Block, Room};
+ghost use Rattle.factor_update.specs.Factor.{Rising};
+ghost use Rattle.factor_update.specs.Room.{Block, Room};
 ghost use Rattle.factoring.specs.Kept.{factor, keptOf};
 ghost use Rattle.factoring.specs.Kept as Kept;
 
@@ -45,7 +45,7 @@ fn contains_all(indices: &[usize], s: &[usize]) -> bool
     requires { ⌜ Below (length (now indices)) (now indices) Sizes.originals × Below (length (now s)) (now s) Sizes.originals ⌝ }
     ensures { λ r. ⌜ r ≡ Kept.containsAll (now (indices .entry)) (now (s .entry)) ⌝ }
 {
-    let listed = factor::marks(indices);
+    let listed = factor_update::marks(indices);
     for t in 0..s.len() {
         let i = s[t];
         if !listed[i] {
@@ -115,7 +115,7 @@ fn last_updated(
     if factored {
         let list = held.list;
         let k = held.count;
-        return factor::updated(q, n, originals, &list[..k], indices, l, room);
+        return factor_update::updated(q, n, originals, &list[..k], indices, l, room);
     }
     false
 }

@@ -26,7 +26,7 @@ use Rattle.format.specs.Read.{Outcome, block, refused, outcome, number, 
 use Rattle.format.specs.Laws.{need-held, after-held, first-each}
 use Rattle.format.specs.Whole.{whole}
 use Rattle.format.specs.Structs.{blockOf, readOf}
-use Rattle.format.specs.declared.Answer.{Answer}
+use Rattle.format.specs.declared.Reading.{Reading}
 use Rattle.format.specs.declared.Verdict.the-variants.{OutOfOrder, OutOfRange, CrossedBounds, BadList}
 
 -- ---- numbers
@@ -340,5 +340,5 @@ unfolding read
 read-ranged s b e = fields-ranged (length s) s 0 empty b empty-ranged e
 
 -- of what the code answers
-pub answer-ranged : (s : List ℕ) (a : Answer) → readOf a ≡ read s → accepted (a .verdict) ≡ true → Ranged (blockOf (a .block))
+pub answer-ranged : (s : List ℕ) (a : Reading) → readOf a ≡ read s → accepted (a .verdict) ≡ true → Ranged (blockOf (a .block))
 answer-ranged s a e h = read-ranged s (blockOf (a .block)) (sym e ∙ sym (pick-true _ _ h refl))

@@ -17,7 +17,7 @@ use Rattle.format.specs.declared.Anchor.{Anchor}
 use Rattle.format.specs.declared.Span.{Span}
 use Rattle.format.specs.declared.Block.{Block}
 use Rattle.format.specs.declared.Counts.{Counts}
-use Rattle.format.specs.declared.Answer.{Answer}
+use Rattle.format.specs.declared.Reading.{Reading}
 
 abbrev pub wordOf : Word → Spec.Word
 wordOf w = record { lower = w .lower; upper = w .upper; key = w .key; start = w .start; slope = w .slope }
@@ -50,7 +50,7 @@ blockOf b =
 abbrev pub countsOf : Block → Counts
 countsOf b = record { words = b .words; tempos = b .tempos; anchors = b .anchors; spans = b .spans }
 
-abbrev pub readOf : Answer → Outcome
+abbrev pub readOf : Reading → Outcome
 readOf a = outcome (a .verdict) (blockOf (a .block))
 
 -- ---- the arrays: as long as their types have them, and no count above its array's length

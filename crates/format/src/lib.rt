@@ -103,7 +103,7 @@ pub struct Counts {
 }
 
 // The block is the file's where the verdict is Accepted, else the empty one.
-pub struct Answer {
+pub struct Reading {
     pub verdict: Verdict,
     pub block: Block,
 }

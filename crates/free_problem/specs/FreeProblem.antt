@@ -12,8 +12,8 @@ use Rattle.iterate.specs.Problem.{Problem, problem, firstSlackColumn}
 use Rattle.free_problem.specs.declared.Free.{Free}
 
 -- `q.select_rows(solved).select_columns(solved)`, `e.select_rows(solved).select_columns(&kept)`; a is n by m
-unfoldable pub block : (n m : ℕ) (a : List Float) (rows columns : List ℕ) → List Float
-block n m a rows columns = let k = length rows in selectColumns k (selectRows n m a k rows) (length columns) columns
+unfoldable pub submatrix : (n m : ℕ) (a : List Float) (rows columns : List ℕ) → List Float
+submatrix n m a rows columns = let k = length rows in selectColumns k (selectRows n m a k rows) (length columns) columns
 
 -- `c.select_rows(solved) - slope`
 unfoldable pub linear : (c : List Float) (solved : List ℕ) (slope : List Float) → List Float
@@ -65,8 +65,8 @@ gather (problem originals n m q c e b) x solved slacks slope =
       kept = columns;
       residual = select (length columns) left columns;
       noise = stepNoise qRows k n x originals cFree;
-      «q_free» = block n n q solved solved;
-      «e_free» = block n m e solved columns;
+      «q_free» = submatrix n n q solved solved;
+      «e_free» = submatrix n m e solved columns;
     }
 
 -- what the solve and the step may count on: the columns kept are among the m

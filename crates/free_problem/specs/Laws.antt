@@ -9,7 +9,7 @@ use Rattle.matrix.specs.Matrix.{selectRows}
 use Rattle.slack_rows.specs.SlackRows.{keptColumns, stepNoise}
 use Rattle.iterate.specs.Problem.{problem, firstSlackColumn}
 use Rattle.free_problem.specs.declared.Free.{Free}
-use Rattle.free_problem.specs.FreeProblem.{block, linear, gradient, residuals, Gathered, gatheredOf, gather}
+use Rattle.free_problem.specs.FreeProblem.{submatrix, linear, gradient, residuals, Gathered, gatheredOf, gather}
 
 module _ (originals n m : ℕ) (q c e b x : List Float) (solved slacks : List ℕ) (slope : List Float) where
   abbrev columns : List ℕ
@@ -18,8 +18,8 @@ module _ (originals n m : ℕ) (q c e b x : List Float) (solved slacks : List �
   pub gather-from : {qRows : List Float} (r : Free) (qFree eFree : List Float) →
       r .columns ≡ length columns →
       take (r .columns) (r .kept) ≡ columns → qRows ≡ selectRows n n q (length solved) solved →
-      take (length solved * length solved) qFree ≡ block n n q solved solved →
-      take (length solved * length (take (r .columns) (r .kept))) eFree ≡ block n m e solved (take (r .columns) (r .kept)) →
+      take (length solved * length solved) qFree ≡ submatrix n n q solved solved →
+      take (length solved * length (take (r .columns) (r .kept))) eFree ≡ submatrix n m e solved (take (r .columns) (r .kept)) →
       take (length solved) (r .c) ≡ linear c solved slope →
       take (length solved) (r .gradient) ≡ gradient (length solved) n qRows (take (length solved) (r .c)) x →
       take m (r .residuals) ≡ residuals n m e b x →
@@ -28,7 +28,7 @@ module _ (originals n m : ℕ) (q c e b x : List Float) (solved slacks : List �
       gatheredOf (length solved) m r qFree eFree ≡ gather (problem originals n m q c e b) x solved slacks slope
   unfolding gatheredOf gather
   gather-from r qFree eFree counted listed rows square entries linear-is gradient-is residuals-are residual-is noise-is =
-      let h : take (length solved * length columns) eFree ≡ block n m e solved columns = rw listed at entries in
+      let h : take (length solved * length columns) eFree ≡ submatrix n m e solved columns = rw listed at entries in
       rw (gradient-is, residual-is, noise-is, linear-is, residuals-are, listed, counted, square, h, rows)
 
 -- ---- each part, of what the code leaves

@@ -24,7 +24,7 @@ pub struct Free {
 }
 
 // The block of a (n by m) on the rows `rows` and the columns `columns`, over the start of y; the rows stand in room.
-fn block(
+fn submatrix(
     a: &[f64],
     n: usize,
     m: usize,
@@ -41,7 +41,7 @@ fn block(
     ensures { λ _. ⌜ take (length (now (rows .entry)) * m) (now (room .exit))
         ≡ selectRows n m (now (a .entry)) (length (now (rows .entry))) (now (rows .entry)) ⌝ }
     ensures { λ _. ⌜ take (length (now (rows .entry)) * length (now (columns .entry))) (now (y .exit))
-        ≡ Definition.block n m (now (a .entry)) (now (rows .entry)) (now (columns .entry)) ⌝ }
+        ≡ Definition.submatrix n m (now (a .entry)) (now (rows .entry)) (now (columns .entry)) ⌝ }
 {
     let k = rows.len();
     let entries = k * m;
@@ -135,8 +135,8 @@ pub fn gather(
     let mut residuals = [0.0; sizes::COLUMNS];
     let mut residual = [0.0; sizes::COLUMNS];
     let columns = slack_rows::kept_columns(e, n, m, solved, slacks, originals, first, &mut kept);
-    block(e, n, m, solved, &kept[..columns], room, e_free);
-    block(q, n, n, solved, solved, room, q_free);
+    submatrix(e, n, m, solved, &kept[..columns], room, e_free);
+    submatrix(q, n, n, solved, solved, room, q_free);
     linear(c, n, solved, slope, &mut c_free);
     gradient(&room[..rows], &c_free[..k], k, n, x, &mut gradient_free);
     residuals_at(e, b, n, m, x, &mut residuals);

@@ -8,7 +8,7 @@ use lib.ListN.{length}
 use lib.Ieee.{Float}
 use Rattle.factoring.specs.Kept.{Kept, Factor, factor, reset, update, keptOf}
 use Rattle.scaled.specs.System.{System, system}
-use Rattle.factored.specs.Factored.{Answer, some, none, solveFactored}
+use Rattle.range_space.specs.Factored.{FactoredSolution, some, none, solveFactored}
 use Rattle.solution.specs.Solution as Solution
 use Rattle.solution.specs.Solution.{Kkt, optimum}
 use Rattle.noisy_kkt.specs.NoisyKkt.{solveNoisyKkt}
@@ -26,7 +26,7 @@ unfoldable pub solutionOf : (k m : ℕ) → Solved → (l : List Float) → Free
 solutionOf k m r l = record { answer = Solution.solutionOf k m (r .solution); factoring = keptOf (r .factoring); factor = l }
 
 -- `.and_then(|cholesky| solve_factored(cholesky, problem, noise))`
-unfoldable pub fromFactor : (held : Option (List ℕ)) (l : List Float) → System → (noise : Float) → Answer
+unfoldable pub fromFactor : (held : Option (List ℕ)) (l : List Float) → System → (noise : Float) → FactoredSolution
 fromFactor Option.none l s noise = none
 fromFactor (Option.some held) l s noise = solveFactored l s noise
 
@@ -35,7 +35,7 @@ unfoldable pub fromEigenvectors : Kept → (l : List Float) → System → (nois
 fromEigenvectors f l s noise = record { answer = solveNoisyKkt s noise; factoring = reset f; factor = l }
 
 -- `match factored`, with `Some(solution) => Some(solution)`
-unfoldable pub matched : Kept → (l : List Float) → System → (noise : Float) → Answer → FreeSolution
+unfoldable pub matched : Kept → (l : List Float) → System → (noise : Float) → FactoredSolution → FreeSolution
 matched f l s noise (some x multipliers) = record { answer = optimum x multipliers; factoring = f; factor = l }
 matched f l s noise none = fromEigenvectors f l s noise
 

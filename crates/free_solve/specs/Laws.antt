@@ -8,16 +8,16 @@ use lib.Ieee.{Float}
 use lib.Seq.{length-take-le}
 use Rattle.folds.specs.Fold.{pick}
 use Rattle.sizes.specs.Sizes as Sizes
-use Rattle.factor.specs.Factor.{Rising}
+use Rattle.factor_update.specs.Factor.{Rising}
 use Rattle.factoring.specs.declared.Factoring.{Factoring}
 use Rattle.factoring.specs.Kept.{Kept, Factor, factor, reset, update, optionOf, keptOf, Good}
 use Rattle.factoring.specs.Laws.{held-is, update-regular}
 use Rattle.scaled.specs.System.{System, system}
-use Rattle.factored.specs.declared.Found.{Found}
-use Rattle.factored.specs.Factored.{foundOf}
-use Rattle.factored.specs.Laws.{found-is}
+use Rattle.range_space.specs.declared.Found.{Found}
+use Rattle.range_space.specs.Factored.{foundOf}
+use Rattle.range_space.specs.Laws.{found-is}
 use Rattle.solution.specs.declared.Solution as Noisy
-use Rattle.solution.specs.declared.Verdict.the-variants.{Solved}
+use Rattle.solution.specs.declared.KktVerdict.the-variants.{Solved}
 use Rattle.solution.specs.Solution as Kkt
 use Rattle.solution.specs.Laws.{solution-solved}
 use Rattle.noisy_kkt.specs.NoisyKkt.{solveNoisyKkt}

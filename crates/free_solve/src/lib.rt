@@ -6,16 +6,16 @@ ghost use lib.ListN.{length};
 ghost use Rattle.scaled.specs.System.{Sized, system};
 ghost use Rattle.factoring.specs.Kept.{factor, optionOf, keptOf, Good, Updatable};
 ghost use Rattle.factoring.specs.declared.Listed.{Listed};
-ghost use Rattle.factored.specs.Factored.{foundOf};
+ghost use Rattle.range_space.specs.Factored.{foundOf};
 ghost use Rattle.free_problem.specs.FreeProblem.{gatheredOf, Lists};
 ghost use Rattle.free_solve.specs.Regular.{Regular};
 ghost use Rattle.free_solve.specs.FreeSolve as Definition;
-use factored::Found;
 use factoring::Factoring;
 use free_problem::Free;
 use iterate::Counts;
+use range_space::Found;
+use solution::KktVerdict;
 use solution::Solution;
-use solution::Verdict;
 
 // The step with its multipliers, or why there is none, and the factoring that is left.
 pub struct Solved {
@@ -46,7 +46,7 @@ fn from_factor(
         (system n m (now (k .entry)) (now (c .entry)) (now (e .entry)) (now (b .entry))) noise) ⌝ }
 {
     if factored {
-        return factored::solve_factored(l, k, c, e, b, n, m, noise, w, gram);
+        return range_space::solve_factored(l, k, c, e, b, n, m, noise, w, gram);
     }
     Found {
         found: false,
@@ -83,7 +83,7 @@ fn solve_updated(
     let multipliers = found.multipliers;
     if found.found {
         let solution = Solution {
-            verdict: Verdict::Solved,
+            verdict: KktVerdict::Solved,
             x: x,
             multipliers: multipliers,
         };
@@ -93,7 +93,7 @@ fn solve_updated(
         };
     }
     let solution = noisy_kkt::solve_noisy_kkt(k, c, e, b, n, m, noise);
-    let dropped = kept_factor::dropped(factoring);
+    let dropped = lent_factoring::dropped(factoring);
     Solved {
         solution: solution,
         factoring: dropped,
@@ -131,7 +131,15 @@ pub fn solve_free(
     let residual = free.residual;
     let square = k * k;
     let entries = k * m;
-    let updated = kept_factor::updated(factoring, q, counts.n, counts.originals, solved, l, room);
+    let updated = lent_factoring::updated(
+        factoring,
+        q,
+        counts.n,
+        counts.originals,
+        solved,
+        l,
+        room,
+    );
     solve_updated(
         updated,
         l,

@@ -23,8 +23,8 @@ use iterate::Magnitudes;
 use iterate::Passed;
 use ray::Ray;
 use segments::Segments;
+use solution::KktVerdict;
 use solution::Solution;
-use solution::Verdict;
 
 // The step on the variables `solved`, with the slacks' after it.
 fn slack_steps(
@@ -265,7 +265,7 @@ pub fn step(
 {
     let verdict = solution.verdict;
     match verdict {
-        Verdict::Solved => to_minimum(
+        KktVerdict::Solved => to_minimum(
             solution,
             iterate,
             segments,
@@ -282,7 +282,7 @@ pub fn step(
             lower,
             upper,
         ),
-        Verdict::NoOptimum => descend(
+        KktVerdict::NoOptimum => descend(
             iterate,
             segments,
             e,
@@ -296,7 +296,7 @@ pub fn step(
             lower,
             upper,
         ),
-        Verdict::NonFiniteCovariance => iterate::ended(Ending::NonFiniteCovariance, iterate),
-        Verdict::SingularCovariance => iterate::ended(Ending::SingularCovariance, iterate),
+        KktVerdict::NonFiniteCovariance => iterate::ended(Ending::NonFiniteCovariance, iterate),
+        KktVerdict::SingularCovariance => iterate::ended(Ending::SingularCovariance, iterate),
     }
 }

@@ -9,19 +9,19 @@ use Rattle.folds.specs.Run.{Pass, done}
 use Rattle.vector.specs.Vector.{add, sub, select}
 use Rattle.segments.specs.declared.Segments.{Segments}
 use Rattle.free_list.specs.FreeList.{freeIndices, lowerEnds, upperEnds}
-use Rattle.blocking.specs.Blocking.{ratioTest, stepTolerance, blocking}
+use Rattle.blocking.specs.Blocking.{ratioTest, stepTolerance, firstPassed}
 use Rattle.blocking.specs.declared.Hit.{Hit}
 use Rattle.blocking.specs.declared.Hit.the-variants.{Found, Nothing}
 use Rattle.iterate.specs.Iterate.{Result, unbounded}
 use Rattle.iterate.specs.declared.Iterate.{Iterate}
-use Rattle.advance.specs.Advance.{stopped, blocked, settled, release, decided}
+use Rattle.advance.specs.Advance.{moveAndBlock, blockedPass, settled, release, decided}
 
 -- ---- toward the target
 -- `if let Some((step, k, side)) = blocking { .. continue; }`, with the step along `target - x_free`; else the whole step, and the release
 unfoldable pub atBlocking : (originals n m : ℕ) (q c e : List Float) (segments : List Segments) (fixed : List Bool) (qAmax linear : Float)
     (indices : List ℕ) (xFree target lower upper : List Float) (tolerance : Float) (multipliers : List Float) → Iterate → Hit → Pass Iterate Result
 atBlocking originals n m q c e segments fixed qAmax linear indices xFree target lower upper tolerance multipliers i (Found step k side) =
-    blocked i (stopped segments indices xFree (sub (length indices) target xFree) lower upper step k side (i .released) (i .board))
+    blockedPass i (moveAndBlock segments indices xFree (sub (length indices) target xFree) lower upper step k side (i .released) (i .board))
 atBlocking originals n m q c e segments fixed qAmax linear indices xFree target lower upper tolerance multipliers i Nothing =
     let board = settled indices target lower upper tolerance (i .board) in
     decided n i board multipliers (release originals n m q c e segments fixed qAmax linear multipliers board)
@@ -32,7 +32,7 @@ unfoldable pub stepped : (originals n m : ℕ) (q c e : List Float) (segments : 
 stepped originals n m q c e segments fixed qAmax linear indices solved xFree target lower upper multipliers i =
     let tolerance = stepTolerance solved target originals (take n (i .board .x)) in
     atBlocking originals n m q c e segments fixed qAmax linear indices xFree target lower upper tolerance multipliers i
-    (blocking (length indices) xFree target lower upper tolerance)
+    (firstPassed (length indices) xFree target lower upper tolerance)
 
 -- `let target = &x_free + delta`
 unfoldable pub toward : (originals n m : ℕ) (q c e : List Float) (segments : List Segments) (fixed : List Bool) (qAmax linear : Float) (solved : ℕ)
@@ -49,7 +49,7 @@ toward originals n m q c e segments fixed qAmax linear solved step multipliers i
 unfoldable pub atRatio : (segments : List Segments) (indices : List ℕ) (xFree direction lower upper : List Float) → Iterate → Hit →
     Pass Iterate Result
 atRatio segments indices xFree direction lower upper i (Found step k side) =
-    blocked i (stopped segments indices xFree direction lower upper step k side (i .released) (i .board))
+    blockedPass i (moveAndBlock segments indices xFree direction lower upper step k side (i .released) (i .board))
 atRatio segments indices xFree direction lower upper i Nothing = done unbounded
 
 unfoldable pub rayStep : (segments : List Segments) (indices : List ℕ) (xFree direction lower upper : List Float) → Iterate →

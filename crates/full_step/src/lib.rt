@@ -54,7 +54,7 @@ fn stepped(
     let x = board.x;
     let count = indices.len();
     let tolerance = blocking::step_tolerance(target, solved, &x[..n], counts.originals);
-    let hit = blocking::blocking(x_free, target, lower, upper, count, tolerance);
+    let hit = blocking::first_passed(x_free, target, lower, upper, count, tolerance);
     let Hit::Found(step, k, side) = hit else {
         let next = advance::settled(board, indices, target, lower, upper, tolerance);
         return advance::decided(
@@ -72,7 +72,7 @@ fn stepped(
     };
     let mut direction = [0.0; sizes::VARIABLES];
     vector::sub(target, x_free, count, &mut direction);
-    advance::blocked(
+    advance::blocked_pass(
         iterate,
         segments,
         indices,
@@ -107,7 +107,7 @@ fn ray_step(
     let Hit::Found(step, k, side) = hit else {
         return iterate::ended(Ending::Unbounded, iterate);
     };
-    advance::blocked(
+    advance::blocked_pass(
         iterate,
         segments,
         indices,

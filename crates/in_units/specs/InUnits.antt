@@ -14,7 +14,7 @@ use Rattle.segments.specs.declared.Segments.{Segments}
 use Rattle.blocking.specs.declared.Released.the-variants.{NoOne}
 use Rattle.iterate.specs.Problem.{Problem, problem}
 use Rattle.iterate.specs.declared.Iterate.{Iterate}
-use Rattle.active.specs.Answer.{Answer}
+use Rattle.active.specs.Minimized.{Minimized}
 use Rattle.active.specs.Active.{passes}
 
 -- where the passes start: the start held to its range, each variable's first state, no variable refused or released
@@ -33,7 +33,7 @@ started n segments start =
       «freed_at» = replicate Sizes.variables f0;
     }
 
-unfoldable pub solvePiecewiseInUnits : Problem → (segments : List Segments) (start : List Float) → Answer
+unfoldable pub solvePiecewiseInUnits : Problem → (segments : List Segments) (start : List Float) → Minimized
 solvePiecewiseInUnits (problem originals n m q c e b) segments start =
     passes (problem originals n m q c e b) segments (allFixed n segments) (amax (n * n) q) (max (amax n c) (slopeAmax n segments))
     (started n segments start) (filled (originals * originals) f0)

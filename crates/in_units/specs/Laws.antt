@@ -14,7 +14,7 @@ use Rattle.segments.specs.declared.Segments.{Segments}
 use Rattle.iterate.specs.Problem.{problem}
 use Rattle.iterate.specs.Iterate.{Kept}
 use Rattle.iterate.specs.declared.Iterate.{Iterate}
-use Rattle.active.specs.Answer.{Answer}
+use Rattle.active.specs.Minimized.{Minimized}
 use Rattle.active.specs.Active.{budget, passes}
 use Rattle.active.specs.Laws.{Within, passes-within}
 use Rattle.in_units.specs.InUnits.{started, solvePiecewiseInUnits}
@@ -24,7 +24,7 @@ unfolding started
 started-kept n segments start cut = record { placed = all-placed n segments _ _ _ cut refl }
 
 -- what the calls leave, put together
-pub units-from : {r : Answer} {fixed : List Bool} {qAmax linear cAmax slopes : Float} {i : Iterate} {l : List Float}
+pub units-from : {r : Minimized} {fixed : List Bool} {qAmax linear cAmax slopes : Float} {i : Iterate} {l : List Float}
     (originals n m : ℕ) (q c e b : List Float) (segments : List Segments) (start : List Float) →
     fixed ≡ allFixed n segments → qAmax ≡ amax (n * n) q → cAmax ≡ amax n c → slopes ≡ slopeAmax n segments →
     linear ≡ max cAmax slopes → i ≡ started n segments start → l ≡ filled (originals * originals) f0 →

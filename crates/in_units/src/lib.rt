@@ -8,9 +8,9 @@ ghost use Rattle.arith.specs.Float.{f0};
 ghost use Rattle.vector.specs.Vector.{filled};
 ghost use Rattle.segments.specs.Segments.{AllCut};
 ghost use Rattle.iterate.specs.Problem.{problem, Shaped, Room};
-ghost use Rattle.active.specs.Answer.{answerOf};
+ghost use Rattle.active.specs.Minimized.{minimizedOf};
 ghost use Rattle.in_units.specs.InUnits as Definition;
-use active::Answer;
+use active::Minimum;
 use blocking::Board;
 use blocking::Released;
 use iterate::Counts;
@@ -62,13 +62,13 @@ fn solve_piecewise_in_units(
     e_free: &mut [f64],
     gram: &mut [f64],
     l: &mut [f64],
-) -> Answer
+) -> Minimum
     requires { ⌜ Shaped (counts .originals) (counts .n) (counts .m) (now q) (now c) (now e) (now b)
         × AllCut (counts .n) segments
         × (counts .n ≤ length (now start))
         × Room (counts .originals) (counts .n) (counts .m) (now room) (now «q_free») (now «e_free») (now gram)
         × (now l ≡ filled (counts .originals * counts .originals) f0) ⌝ }
-    ensures { λ r. ⌜ answerOf (counts .n) (counts .m) r
+    ensures { λ r. ⌜ minimizedOf (counts .n) (counts .m) r
         ≡ Definition.solvePiecewiseInUnits
         (problem (counts .originals) (counts .n) (counts .m) (now (q .entry)) (now (c .entry)) (now (e .entry)) (now (b .entry)))
         segments (now (start .entry)) ⌝ }
@@ -109,14 +109,14 @@ fn engine_small(
     n: usize,
     m: usize,
     r: usize,
-) -> Answer
+) -> Minimum
     requires { ⌜ Shaped n (n + r) (m + r) (now q) (now c) (now e) (now b)
         × AllCut (n + r) segments
         × (n + r ≤ length (now start))
         × (m ≤ Sizes.equalities)
         × (r ≤ Sizes.few)
         × (n ≤ Sizes.few) ⌝ }
-    ensures { λ s. ⌜ answerOf (n + r) (m + r) s
+    ensures { λ s. ⌜ minimizedOf (n + r) (m + r) s
         ≡ Definition.solvePiecewiseInUnits (problem n (n + r) (m + r) (now (q .entry)) (now (c .entry)) (now (e .entry)) (now (b .entry))) segments
         (now (start .entry)) ⌝ }
 {
@@ -157,13 +157,13 @@ fn engine_large(
     n: usize,
     m: usize,
     r: usize,
-) -> Answer
+) -> Minimum
     requires { ⌜ Shaped n (n + r) (m + r) (now q) (now c) (now e) (now b)
         × AllCut (n + r) segments
         × (n + r ≤ length (now start))
         × (m ≤ Sizes.equalities)
         × (r ≤ Sizes.rows) ⌝ }
-    ensures { λ s. ⌜ answerOf (n + r) (m + r) s
+    ensures { λ s. ⌜ minimizedOf (n + r) (m + r) s
         ≡ Definition.solvePiecewiseInUnits (problem n (n + r) (m + r) (now (q .entry)) (now (c .entry)) (now (e .entry)) (now (b .entry))) segments
         (now (start .entry)) ⌝ }
 {
@@ -205,13 +205,13 @@ pub fn engine_sized(
     n: usize,
     m: usize,
     r: usize,
-) -> Answer
+) -> Minimum
     requires { ⌜ Shaped n (n + r) (m + r) (now q) (now c) (now e) (now b)
         × AllCut (n + r) segments
         × (n + r ≤ length (now start))
         × (m ≤ Sizes.equalities)
         × (r ≤ Sizes.rows) ⌝ }
-    ensures { λ s. ⌜ answerOf (n + r) (m + r) s
+    ensures { λ s. ⌜ minimizedOf (n + r) (m + r) s
         ≡ Definition.solvePiecewiseInUnits (problem n (n + r) (m + r) (now (q .entry)) (now (c .entry)) (now (e .entry)) (now (b .entry))) segments
         (now (start .entry)) ⌝ }
 {

@@ -36,17 +36,17 @@ shaped n m k c e b x multipliers =
     (eqb multipliers m)))))))
 
 -- the call's answer: its sizes refused, or what the engine answers
-pub data Answer : Type 0 where
-  wrongShape : Answer
-  engine : Kkt → Answer
+pub data KktAnswer : Type 0 where
+  wrongShape : KktAnswer
+  engine : Kkt → KktAnswer
 
 -- with the lengths of the slices for x and the multipliers
-unfoldable pub solveKkt : System → (xLength multipliersLength : ℕ) → Answer
+unfoldable pub solveKkt : System → (xLength multipliersLength : ℕ) → KktAnswer
 solveKkt (system n m k c e b) x multipliers =
     pick (shaped n m (length k) (length c) (length e) (length b) x multipliers) (engine (solveUnits (system n m k c e b))) wrongShape
 
 -- document 01's number of an answer; 100 is `Ok(None)`
-unfoldable pub number : Answer → ℕ
+unfoldable pub number : KktAnswer → ℕ
 number wrongShape = 9
 number (engine (optimum x multipliers)) = 0
 number (engine noOptimum) = 100
@@ -54,14 +54,14 @@ number (engine nonFinite) = 11
 number (engine singular) = 12
 
 -- what the caller's slices hold afterwards, by what they held
-unfoldable pub xOr : Answer → (held : List Float) → List Float
+unfoldable pub xOr : KktAnswer → (held : List Float) → List Float
 xOr wrongShape o = o
 xOr (engine (optimum x multipliers)) o = x
 xOr (engine noOptimum) o = o
 xOr (engine nonFinite) o = o
 xOr (engine singular) o = o
 
-unfoldable pub multipliersOr : Answer → (held : List Float) → List Float
+unfoldable pub multipliersOr : KktAnswer → (held : List Float) → List Float
 multipliersOr wrongShape o = o
 multipliersOr (engine (optimum x multipliers)) o = multipliers
 multipliersOr (engine noOptimum) o = o
@@ -69,7 +69,7 @@ multipliersOr (engine nonFinite) o = o
 multipliersOr (engine singular) o = o
 
 -- what a call gives back for an answer: its number, and what the two slices hold at exit, by what they held at entry
-pub record Written (a : Answer) (r : ℕ) (x x' multipliers multipliers' : List Float) : Type 0 where
+pub record Written (a : KktAnswer) (r : ℕ) (x x' multipliers multipliers' : List Float) : Type 0 where
   pub numbered : r ≡ number a
   pub x-written : x' ≡ xOr a x
   pub multipliers-written : multipliers' ≡ multipliersOr a multipliers

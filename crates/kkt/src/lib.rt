@@ -7,8 +7,8 @@ ghost use Rattle.scaled.specs.System.{Sized, system};
 ghost use Rattle.solution.specs.Solution.{answer, solutionOf};
 ghost use Rattle.kkt.specs.Kkt.{engine, Answered, Written};
 ghost use Rattle.kkt.specs.Kkt as Definition;
+use solution::KktVerdict;
 use solution::Solution;
-use solution::Verdict;
 
 // The solve in `Units`, and back; uk and ue are work memory.
 fn solve_in(
@@ -131,7 +131,7 @@ fn shaped(
 
 // The number of a verdict; where it is Solved, x and the multipliers are written.
 fn write(
-    verdict: Verdict,
+    verdict: KktVerdict,
     optimum: [f64; sizes::VARIABLES],
     lambda: [f64; sizes::COLUMNS],
     n: usize,
@@ -144,14 +144,14 @@ fn write(
         (now (x .entry)) (now (x .exit)) (now (multipliers .entry)) (now (multipliers .exit)) ⌝ }
 {
     match verdict {
-        Verdict::Solved => {
+        KktVerdict::Solved => {
             vector::copy(&optimum[..n], n, x);
             vector::copy(&lambda[..m], m, multipliers);
             0
         }
-        Verdict::NoOptimum => 100,
-        Verdict::NonFiniteCovariance => 11,
-        Verdict::SingularCovariance => 12,
+        KktVerdict::NoOptimum => 100,
+        KktVerdict::NonFiniteCovariance => 11,
+        KktVerdict::SingularCovariance => 12,
     }
 }
 

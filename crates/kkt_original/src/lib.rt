@@ -6,8 +6,8 @@ ghost use Rattle.vector.specs.Vector as Vector;
 ghost use Rattle.sizes.specs.Sizes as Sizes;
 ghost use Rattle.solution.specs.Solution.{answer, solutionOf};
 ghost use Rattle.kkt_original.specs.Original as Definition;
+use solution::KktVerdict;
 use solution::Solution;
-use solution::Verdict;
 
 // `original_multipliers`
 fn original_multipliers(multipliers: &[f64], columns: &[f64], m: usize) -> [f64; sizes::COLUMNS]
@@ -43,17 +43,17 @@ fn restored(
     if units::checked(&x[..n], e, b, columns, n, m) {
         let y = original_multipliers(&multipliers[..m], columns, m);
         return Solution {
-            verdict: Verdict::Solved,
+            verdict: KktVerdict::Solved,
             x: x,
             multipliers: y,
         };
     }
-    solution::refused(Verdict::SingularCovariance)
+    solution::refused(KktVerdict::SingularCovariance)
 }
 
 // `Ok(None)` and what is refused pass.
 pub fn original(
-    verdict: Verdict,
+    verdict: KktVerdict,
     u: [f64; sizes::VARIABLES],
     multipliers: [f64; sizes::COLUMNS],
     e: &[f64],
@@ -74,9 +74,9 @@ pub fn original(
         (answer verdict (take n u) (take m multipliers)) ⌝ }
 {
     match verdict {
-        Verdict::Solved => restored(u, multipliers, e, b, scales, columns, n, m),
-        Verdict::NoOptimum => solution::refused(Verdict::NoOptimum),
-        Verdict::NonFiniteCovariance => solution::refused(Verdict::NonFiniteCovariance),
-        Verdict::SingularCovariance => solution::refused(Verdict::SingularCovariance),
+        KktVerdict::Solved => restored(u, multipliers, e, b, scales, columns, n, m),
+        KktVerdict::NoOptimum => solution::refused(KktVerdict::NoOptimum),
+        KktVerdict::NonFiniteCovariance => solution::refused(KktVerdict::NonFiniteCovariance),
+        KktVerdict::SingularCovariance => solution::refused(KktVerdict::SingularCovariance),
     }
 }

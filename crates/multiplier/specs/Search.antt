@@ -9,9 +9,9 @@ use Rattle.folds.specs.Until.{until}
 use Rattle.arith.specs.Float.{infinity}
 use Rattle.arith.specs.Double.{halfMax}
 use Rattle.vector.specs.Vector.{addScalar}
-use Rattle.active.specs.Answer as Engine
-use Rattle.active.specs.declared.Verdict.{Verdict}
-use Rattle.active.specs.declared.Verdict.the-variants.{Optimal, NonFiniteCovariance, SingularCovariance, Unbounded, NotConverged}
+use Rattle.active.specs.Minimized as Engine
+use Rattle.active.specs.declared.SolveVerdict.{SolveVerdict}
+use Rattle.active.specs.declared.SolveVerdict.the-variants.{Optimal, NonFiniteCovariance, SingularCovariance, Unbounded, NotConverged}
 use Rattle.quadratic.specs.Quadratic.{quadratic}
 use Rattle.slack_solve.specs.SlackSolve as SlackSolve
 use Rattle.turnover.specs.Turnover.{turnover, within, reaches}
@@ -25,7 +25,7 @@ pub data Problem : Type 0 where
   problem : (n m r : ℕ) (q c e b lower upper a rowLower rowUpper at slopes : List Float) → Problem
 
 -- `solve(extra, start)`: the slopes are `kinks.slopes.add_scalar(extra)`
-unfoldable pub solve : Problem → (extra : Float) (start : List Float) → Engine.Answer
+unfoldable pub solve : Problem → (extra : Float) (start : List Float) → Engine.Minimized
 solve (problem n m r q c e b lower upper a rowLower rowUpper at slopes) extra start =
     SlackSolve.solve (quadratic n m r q c e b lower upper a rowLower rowUpper at (addScalar n slopes extra) start)
 
@@ -37,7 +37,7 @@ pub data Ended : Type 0 where
   unbounded : Ended
   notConverged : Ended
 
-unfoldable pub ended : Verdict → Bracket → Ended
+unfoldable pub ended : SolveVerdict → Bracket → Ended
 ended Optimal b = found b
 ended NonFiniteCovariance b = nonFinite
 ended SingularCovariance b = singular
@@ -58,7 +58,7 @@ Gives s b f = (n w : ℕ) → steppedOf n w s ≡ f (bracketOf n w b)
 abbrev pub goes : Bracket → Pass Bracket Ended
 goes b = more b
 
-abbrev pub ends : Verdict → Bracket → Pass Bracket Ended
+abbrev pub ends : SolveVerdict → Bracket → Pass Bracket Ended
 ends v b = done (ended v b)
 
 -- ---- the doubling
@@ -67,7 +67,7 @@ unfoldable pub doubleOn : Bracket → Pass Bracket Ended
 doubleOn b = pick (lt halfMax (b .high)) (done notConverged) (more (double b))
 
 -- what `solve` at `high` answered. Document 01: 'an error other than Unbounded becomes NotConverged'; Unbounded is `(f64::INFINITY, None)`
-unfoldable pub doubleBy : (n : ℕ) (at : List Float) (limit : Float) → Bracket → Engine.Answer → Pass Bracket Ended
+unfoldable pub doubleBy : (n : ℕ) (at : List Float) (limit : Float) → Bracket → Engine.Minimized → Pass Bracket Ended
 doubleBy n at limit b (Engine.optimal x multipliers passes) =
     let value = turnover n x at in
     pick (within n value limit x)
@@ -91,7 +91,7 @@ reached p limit b = reachedOr notConverged p limit b
 
 -- ---- the cuts
 -- what `solve` at the middle answered: errors pass on
-unfoldable pub cutBy : (n : ℕ) (at : List Float) (limit : Float) → Bracket → Engine.Answer → Pass Bracket Ended
+unfoldable pub cutBy : (n : ℕ) (at : List Float) (limit : Float) → Bracket → Engine.Minimized → Pass Bracket Ended
 cutBy n at limit b (Engine.optimal x multipliers passes) =
     let value = turnover n x at in
     pick (within n value limit x) (more (accept (b .middle) value x multipliers passes b)) (more (exceed (b .middle) value b))

@@ -4,14 +4,14 @@ ghost use mathlib.Core.Path.{_≡_};
 ghost use Prim.Native.Nat.{ℕ, _≤_, _+_};
 ghost use lib.ListN.{length, take};
 ghost use Rattle.sizes.specs.Sizes as Sizes;
-ghost use Rattle.active.specs.Answer.{answer, answerOf};
+ghost use Rattle.active.specs.Minimized.{minimized, minimizedOf};
 ghost use Rattle.bracket.specs.Bracket.{bracketOf};
 ghost use Rattle.bracket.specs.Ends.{Rising};
 ghost use Rattle.multiplier.specs.Ready.{Ready};
 ghost use Rattle.multiplier.specs.Search.{problem, Gives, steppedOf, endedOf};
 ghost use Rattle.multiplier.specs.Search as Definition;
-use active::Answer;
-use active::Verdict;
+use active::Minimum;
+use active::SolveVerdict;
 use bracket::Bracket;
 
 const MAX: f64 = 1.7976931348623157e308;
@@ -20,7 +20,7 @@ const MAX: f64 = 1.7976931348623157e308;
 // Optimal.
 pub struct Stepped {
     pub more: bool,
-    pub verdict: Verdict,
+    pub verdict: SolveVerdict,
     pub bracket: Bracket,
 }
 
@@ -29,12 +29,12 @@ fn more(bracket: Bracket) -> Stepped
 {
     Stepped {
         more: true,
-        verdict: Verdict::Optimal,
+        verdict: SolveVerdict::Optimal,
         bracket: bracket,
     }
 }
 
-fn ended(verdict: Verdict, bracket: Bracket) -> Stepped
+fn ended(verdict: SolveVerdict, bracket: Bracket) -> Stepped
     ensures { λ r. ⌜ Gives r bracket (Definition.ends verdict) ⌝ }
 {
     Stepped {
@@ -62,10 +62,10 @@ pub fn solve_raised(
     n: usize,
     m: usize,
     r: usize,
-) -> Answer
+) -> Minimum
     requires { ⌜ Ready n m r (now q) (now c) (now e) (now b) (now lower) (now upper) (now a) (now «row_lower»)
         (now «row_upper») (now at) (now slopes) ⌝ }
-    ensures { λ s. ⌜ answerOf n (m + r) s
+    ensures { λ s. ⌜ minimizedOf n (m + r) s
         ≡ Definition.solve (problem n m r (now (q .entry)) (now (c .entry)) (now (e .entry)) (now (b .entry)) (now (lower .entry))
         (now (upper .entry)) (now (a .entry)) (now («row_lower» .entry)) (now («row_upper» .entry)) (now (at .entry)) (now (slopes .entry)))
         extra (take n warm) ⌝ }
@@ -97,7 +97,7 @@ fn double_on(bracket: Bracket) -> Stepped
     ensures { λ r. ⌜ Gives r bracket Definition.doubleOn ⌝ }
 {
     if bracket.high > MAX / 2.0 {
-        return ended(Verdict::NotConverged, bracket);
+        return ended(SolveVerdict::NotConverged, bracket);
     }
     more(bracket.double())
 }
@@ -105,7 +105,7 @@ fn double_on(bracket: Bracket) -> Stepped
 // What the solve at `high` answered. An objective with no minimum runs off past any limit; any other error is the arithmetic breaking down.
 fn double_by(
     bracket: Bracket,
-    verdict: Verdict,
+    verdict: SolveVerdict,
     x: [f64; sizes::VARIABLES],
     multipliers: [f64; sizes::COLUMNS],
     passes: usize,
@@ -115,22 +115,22 @@ fn double_by(
 ) -> Stepped
     requires { ⌜ (n ≤ Sizes.originals) × (n ≤ length (now at)) ⌝ }
     ensures { λ r. ⌜ ((w : ℕ) → steppedOf n w r
-        ≡ Definition.doubleBy n (now (at .entry)) limit (bracketOf n w bracket) (answer verdict (take n x) (take w multipliers) passes)) ⌝ }
+        ≡ Definition.doubleBy n (now (at .entry)) limit (bracketOf n w bracket) (minimized verdict (take n x) (take w multipliers) passes)) ⌝ }
 {
     match verdict {
-        Verdict::Optimal => {
+        SolveVerdict::Optimal => {
             let value = turnover::turnover(&x[..n], at, n);
             if turnover::within(value, limit, &x[..n], n) {
                 let best = bracket.accept(bracket.high, value, x, multipliers, passes);
-                return ended(Verdict::Optimal, best);
+                return ended(SolveVerdict::Optimal, best);
             }
             let past = bracket.exceed(bracket.high, value);
             double_on(past.warmed(x))
         }
-        Verdict::Unbounded => double_on(bracket.exceed(bracket.high, arith::infinity())),
-        Verdict::NonFiniteCovariance => ended(Verdict::NotConverged, bracket),
-        Verdict::SingularCovariance => ended(Verdict::NotConverged, bracket),
-        Verdict::NotConverged => ended(Verdict::NotConverged, bracket),
+        SolveVerdict::Unbounded => double_on(bracket.exceed(bracket.high, arith::infinity())),
+        SolveVerdict::NonFiniteCovariance => ended(SolveVerdict::NotConverged, bracket),
+        SolveVerdict::SingularCovariance => ended(SolveVerdict::NotConverged, bracket),
+        SolveVerdict::NotConverged => ended(SolveVerdict::NotConverged, bracket),
     }
 }
 
@@ -243,7 +243,7 @@ fn reach(
 // What the solve at the middle answered.
 fn cut_by(
     bracket: Bracket,
-    verdict: Verdict,
+    verdict: SolveVerdict,
     x: [f64; sizes::VARIABLES],
     multipliers: [f64; sizes::COLUMNS],
     passes: usize,
@@ -253,20 +253,20 @@ fn cut_by(
 ) -> Stepped
     requires { ⌜ (n ≤ Sizes.originals) × (n ≤ length (now at)) ⌝ }
     ensures { λ r. ⌜ ((w : ℕ) → steppedOf n w r
-        ≡ Definition.cutBy n (now (at .entry)) limit (bracketOf n w bracket) (answer verdict (take n x) (take w multipliers) passes)) ⌝ }
+        ≡ Definition.cutBy n (now (at .entry)) limit (bracketOf n w bracket) (minimized verdict (take n x) (take w multipliers) passes)) ⌝ }
 {
     match verdict {
-        Verdict::Optimal => {
+        SolveVerdict::Optimal => {
             let value = turnover::turnover(&x[..n], at, n);
             if turnover::within(value, limit, &x[..n], n) {
                 return more(bracket.accept(bracket.middle, value, x, multipliers, passes));
             }
             more(bracket.exceed(bracket.middle, value))
         }
-        Verdict::Unbounded => more(bracket.exceed(bracket.middle, arith::infinity())),
-        Verdict::NonFiniteCovariance => ended(Verdict::NonFiniteCovariance, bracket),
-        Verdict::SingularCovariance => ended(Verdict::SingularCovariance, bracket),
-        Verdict::NotConverged => ended(Verdict::NotConverged, bracket),
+        SolveVerdict::Unbounded => more(bracket.exceed(bracket.middle, arith::infinity())),
+        SolveVerdict::NonFiniteCovariance => ended(SolveVerdict::NonFiniteCovariance, bracket),
+        SolveVerdict::SingularCovariance => ended(SolveVerdict::SingularCovariance, bracket),
+        SolveVerdict::NotConverged => ended(SolveVerdict::NotConverged, bracket),
     }
 }
 
@@ -347,11 +347,11 @@ fn cut_step(
 {
     let best = bracket.best;
     if turnover::reaches(bracket.high_value, limit, &best[..n], n) {
-        return ended(Verdict::Optimal, bracket);
+        return ended(SolveVerdict::Optimal, bracket);
     }
     let next = bracket.cut(limit);
     if next.closed() {
-        return ended(Verdict::Optimal, bracket);
+        return ended(SolveVerdict::Optimal, bracket);
     }
     cut_at(
         next,
@@ -475,7 +475,7 @@ pub fn reach_and_narrow(
     );
     let verdict = s.verdict;
     match verdict {
-        Verdict::Optimal => {
+        SolveVerdict::Optimal => {
             let t = s.bracket;
             narrow(
                 t,
@@ -496,9 +496,9 @@ pub fn reach_and_narrow(
                 r,
             )
         }
-        Verdict::NonFiniteCovariance => s,
-        Verdict::SingularCovariance => s,
-        Verdict::Unbounded => s,
-        Verdict::NotConverged => s,
+        SolveVerdict::NonFiniteCovariance => s,
+        SolveVerdict::SingularCovariance => s,
+        SolveVerdict::Unbounded => s,
+        SolveVerdict::NotConverged => s,
     }
 }

@@ -9,8 +9,8 @@ ghost use Rattle.scaled.specs.System.{Sized, system};
 ghost use Rattle.solution.specs.Solution.{solutionOf};
 ghost use Rattle.noisy_kkt.specs.NoisyKkt as Definition;
 use scaled::Scale;
+use solution::KktVerdict;
 use solution::Solution;
-use solution::Verdict;
 
 // x where ½xᵀKx − cᵀx is least over x0 + Zv, if the eigenvalues of ZᵀKZ were found.
 struct Point {
@@ -144,7 +144,7 @@ fn solve_over(
         );
         return solution::judged(k, c, e, b, x, multipliers, n, m, noise);
     }
-    solution::refused(Verdict::SingularCovariance)
+    solution::refused(KktVerdict::SingularCovariance)
 }
 
 // The solve of a system that is scaled.
@@ -360,8 +360,8 @@ pub fn solve_noisy_kkt(
     if finite(k, c, n) {
         return match scaled::k_scale(k, n) {
             Scale::By(scale) => solve_by(k, c, e, b, n, m, noise, scale),
-            Scale::Refused => solution::refused(Verdict::SingularCovariance),
+            Scale::Refused => solution::refused(KktVerdict::SingularCovariance),
         };
     }
-    solution::refused(Verdict::NonFiniteCovariance)
+    solution::refused(KktVerdict::NonFiniteCovariance)
 }

@@ -14,8 +14,8 @@ use Rattle.folds.specs.Fold.{pick}
 use Rattle.folds.specs.Run.{Pass}
 use Rattle.folds.specs.Position.{partitionPoint, split-within}
 use Rattle.sizes.specs.Sizes as Sizes
-use Rattle.factor.specs.Factor.{Rising}
-use Rattle.factor.specs.Laws.{rising-chosen}
+use Rattle.factor_update.specs.Factor.{Rising}
+use Rattle.factor_update.specs.Laws.{rising-chosen}
 use Rattle.factoring.specs.Kept.{Kept, keptOf}
 use Rattle.segments.specs.declared.Segments.{Segments}
 use Rattle.segments.specs.declared.Spot.{Spot}

@@ -5,7 +5,7 @@ ghost use mathlib.Core.Path.{_≡_};
 ghost use Prim.Native.Nat.{_≤_, _*_};
 ghost use lib.ListN.{length};
 ghost use Rattle.sizes.specs.Sizes as Sizes;
-ghost use Rattle.factor.specs.Factor.{Rising};
+ghost use Rattle.factor_update.specs.Factor.{Rising};
 ghost use Rattle.factoring.specs.Kept.{keptOf, Good};
 ghost use Rattle.segments.specs.Segments.{AllCut};
 ghost use Rattle.free_list.specs.FreeList.{Ends, freeIndices};

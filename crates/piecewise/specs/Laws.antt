@@ -6,12 +6,12 @@ use Prim.Native.Nat.{ℕ, _<_}
 use lib.Ieee.{Float}
 use Rattle.folds.specs.Fold.{pick-true, pick-false}
 use Rattle.sizes.specs.Sizes as Sizes
-use Rattle.active.specs.Answer as Engine
-use Rattle.active.specs.Answer.{nonFinite, singular, unbounded, notConverged}
+use Rattle.active.specs.Minimized as Engine
+use Rattle.active.specs.Minimized.{nonFinite, singular, unbounded, notConverged}
 use Rattle.quadratic.specs.Quadratic.{Quadratic, quadratic, shaped, blank}
 use Rattle.quadratic.specs.Laws.{many-refused}
 use Rattle.slack_solve.specs.SlackSolve.{solve}
-use Rattle.piecewise.specs.Piecewise.{Answer, wrongShape, blankBound, engine, solvePiecewise, number, xOr, multipliersOr, passesOr, Written}
+use Rattle.piecewise.specs.Piecewise.{PiecewiseAnswer, wrongShape, blankBound, engine, solvePiecewise, number, xOr, multipliersOr, passesOr, Written}
 
 -- ---- the answers of a call
 module _ (n m r : ℕ) (q c e b lower upper a rowLower rowUpper at slopes start : List Float) (x multipliers : ℕ) where
@@ -29,14 +29,14 @@ module _ (n m r : ℕ) (q c e b lower upper a rowLower rowUpper at slopes start 
   unfolding solvePiecewise
   blank-bound t u = sym (pick-true _ _ t (pick-true _ _ u refl))
 
-  pub engine-answers : {s : Engine.Answer} → shaped p x multipliers ≡ true → blank n r lower upper rowLower rowUpper ≡ false → s ≡ solve p →
+  pub engine-answers : {s : Engine.Minimized} → shaped p x multipliers ≡ true → blank n r lower upper rowLower rowUpper ≡ false → s ≡ solve p →
       solvePiecewise p x multipliers ≡ engine s
   unfolding solvePiecewise
   engine-answers t f s = sym (pick-true _ _ t (pick-false _ _ f (rw s)))
 
 -- ---- what a refusal gives back: its number, and what was there
 module _ (x multipliers : List Float) (passes : ℕ) where
-  abbrev Refused : Answer → ℕ → Type 0
+  abbrev Refused : PiecewiseAnswer → ℕ → Type 0
   Refused answer r = Written answer r x x multipliers multipliers passes passes
 
   pub refused-wrongShape : Refused wrongShape 9

@@ -7,18 +7,18 @@ use lib.Ieee.{Float}
 use Rattle.folds.specs.Fold.{pick}
 use Rattle.arith.specs.Float.{f0}
 use Rattle.vector.specs.Vector.{filled}
-use Rattle.active.specs.Answer as Engine
-use Rattle.active.specs.Answer.{optimal, nonFinite, singular, unbounded, notConverged}
+use Rattle.active.specs.Minimized as Engine
+use Rattle.active.specs.Minimized.{optimal, nonFinite, singular, unbounded, notConverged}
 use Rattle.quadratic.specs.Quadratic.{Quadratic, quadratic, shaped, blank}
 use Rattle.slack_solve.specs.SlackSolve.{solve}
 
 -- ---- the call's answer: its sizes or its bounds refused, or what the engine answers
-pub data Answer : Type 0 where
-  wrongShape : Answer
-  blankBound : Answer
-  engine : Engine.Answer → Answer
+pub data PiecewiseAnswer : Type 0 where
+  wrongShape : PiecewiseAnswer
+  blankBound : PiecewiseAnswer
+  engine : Engine.Minimized → PiecewiseAnswer
 
-unfoldable pub solvePiecewise : Quadratic → (xLength multipliersLength : ℕ) → Answer
+unfoldable pub solvePiecewise : Quadratic → (xLength multipliersLength : ℕ) → PiecewiseAnswer
 solvePiecewise (quadratic n m r q c e b lower upper a rowLower rowUpper at slopes start) x multipliers =
     let p = quadratic n m r q c e b lower upper a rowLower rowUpper at slopes start in
     pick (shaped p x multipliers) (pick (blank n r lower upper rowLower rowUpper) blankBound (engine (solve p))) wrongShape
@@ -29,7 +29,7 @@ bounded n m r q c e b lower upper a rowLower rowUpper start =
     quadratic n m r q c e b lower upper a rowLower rowUpper (filled n f0) (filled n f0) start
 
 -- document 01's number of an answer
-unfoldable pub number : Answer → ℕ
+unfoldable pub number : PiecewiseAnswer → ℕ
 number wrongShape = 9
 number blankBound = 10
 number (engine (optimal x multipliers passes)) = 0
@@ -39,7 +39,7 @@ number (engine unbounded) = 13
 number (engine notConverged) = 14
 
 -- what the caller's slices and its number of passes hold afterwards, by what they held
-unfoldable pub xOr : Answer → (held : List Float) → List Float
+unfoldable pub xOr : PiecewiseAnswer → (held : List Float) → List Float
 xOr wrongShape o = o
 xOr blankBound o = o
 xOr (engine (optimal x multipliers passes)) o = x
@@ -48,7 +48,7 @@ xOr (engine singular) o = o
 xOr (engine unbounded) o = o
 xOr (engine notConverged) o = o
 
-unfoldable pub multipliersOr : Answer → (held : List Float) → List Float
+unfoldable pub multipliersOr : PiecewiseAnswer → (held : List Float) → List Float
 multipliersOr wrongShape o = o
 multipliersOr blankBound o = o
 multipliersOr (engine (optimal x multipliers passes)) o = multipliers
@@ -57,7 +57,7 @@ multipliersOr (engine singular) o = o
 multipliersOr (engine unbounded) o = o
 multipliersOr (engine notConverged) o = o
 
-unfoldable pub passesOr : Answer → (held : ℕ) → ℕ
+unfoldable pub passesOr : PiecewiseAnswer → (held : ℕ) → ℕ
 passesOr wrongShape o = o
 passesOr blankBound o = o
 passesOr (engine (optimal x multipliers passes)) o = passes
@@ -67,7 +67,7 @@ passesOr (engine unbounded) o = o
 passesOr (engine notConverged) o = o
 
 -- what a call gives back for an answer: its number, and what the slices and the passes hold at exit, by what they held at entry
-pub record Written (a : Answer) (r : ℕ) (x x' multipliers multipliers' : List Float) (passes passes' : ℕ) : Type 0 where
+pub record Written (a : PiecewiseAnswer) (r : ℕ) (x x' multipliers multipliers' : List Float) (passes passes' : ℕ) : Type 0 where
   pub numbered : r ≡ number a
   pub x-written : x' ≡ xOr a x
   pub multipliers-written : multipliers' ≡ multipliersOr a multipliers

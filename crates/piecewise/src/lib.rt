@@ -3,14 +3,14 @@ ghost use mathlib.Core.Path.{_≡_};
 ghost use Prim.Native.Nat.{_≤_, _+_};
 ghost use lib.ListN.{length, take};
 ghost use Rattle.sizes.specs.Sizes as Sizes;
-ghost use Rattle.active.specs.Answer.{answer};
+ghost use Rattle.active.specs.Minimized.{minimized};
 ghost use Rattle.quadratic.specs.Quadratic.{quadratic};
 ghost use Rattle.piecewise.specs.Piecewise.{bounded, engine, Answered, Written};
-use active::Verdict;
+use active::SolveVerdict;
 
 // The number of a verdict; where it is Optimal, x, the multipliers and the passes are written.
 fn write(
-    verdict: Verdict,
+    verdict: SolveVerdict,
     optimum: [f64; sizes::VARIABLES],
     lambda: [f64; sizes::COLUMNS],
     made: usize,
@@ -21,20 +21,20 @@ fn write(
     passes: &mut u64,
 ) -> u32
     requires { ⌜ (n ≤ Sizes.originals) × (w ≤ Sizes.columns) × (length (now x) ≡ n) × (length (now multipliers) ≡ w) ⌝ }
-    ensures { λ r. ⌜ Written (engine (answer verdict (take n optimum) (take w lambda) made)) r
+    ensures { λ r. ⌜ Written (engine (minimized verdict (take n optimum) (take w lambda) made)) r
         (now (x .entry)) (now (x .exit)) (now (multipliers .entry)) (now (multipliers .exit)) (now (passes .entry)) (now (passes .exit)) ⌝ }
 {
     match verdict {
-        Verdict::Optimal => {
+        SolveVerdict::Optimal => {
             vector::copy(&optimum[..n], n, x);
             vector::copy(&lambda[..w], w, multipliers);
             *passes = made as u64;
             0
         }
-        Verdict::NonFiniteCovariance => 11,
-        Verdict::SingularCovariance => 12,
-        Verdict::Unbounded => 13,
-        Verdict::NotConverged => 14,
+        SolveVerdict::NonFiniteCovariance => 11,
+        SolveVerdict::SingularCovariance => 12,
+        SolveVerdict::Unbounded => 13,
+        SolveVerdict::NotConverged => 14,
     }
 }
 

@@ -12,11 +12,11 @@ use Rattle.folds.specs.Marks.{marked, rising}
 use Rattle.sizes.specs.Sizes as Sizes
 use Rattle.triangular.specs.Triangular.{positiveDefinite}
 use Rattle.scaled.specs.System.{System, system}
-use Rattle.factor.specs.Factor.{Rising}
-use Rattle.factor.specs.Factor as Factor
-use Rattle.factor.specs.Laws.{rising-chosen}
+use Rattle.factor_update.specs.Factor.{Rising}
+use Rattle.factor_update.specs.Factor as Factor
+use Rattle.factor_update.specs.Laws.{rising-chosen}
 use Rattle.factoring.specs.Kept as Kept
-use Rattle.factored.specs.Factored.{Answer, some, none, solveFactored}
+use Rattle.range_space.specs.Factored.{FactoredSolution, some, none, solveFactored}
 use Rattle.probe.specs.Probe.{shaped}
 
 -- all variables below n but i
@@ -95,10 +95,10 @@ vectors-true n m c b x multipliers t =
     let e = both-true _ _ (d .1) in
     record { right = eqb-true _ _ (a .0); below = eqb-true _ _ (d .0); point = eqb-true _ _ (e .0); prices = eqb-true _ _ (e .1) }
 
-unfoldable pub answered : Bool → (x multipliers : List Float) → Answer
+unfoldable pub answered : Bool → (x multipliers : List Float) → FactoredSolution
 answered found x multipliers = pick found (some x multipliers) none
 
-unfoldable pub solve : (l : List Float) → System → (noise : Float) (w g x multipliers : ℕ) → Answer
+unfoldable pub solve : (l : List Float) → System → (noise : Float) (w g x multipliers : ℕ) → FactoredSolution
 solve l (system n m k c e b) noise w g x multipliers =
     pick (matrices n m (length l) (length k) (length e) w g)
     (pick (vectors n m (length c) (length b) x multipliers)

@@ -10,8 +10,8 @@ ghost use Rattle.arith.specs.Float.{sqrt};
 ghost use Rattle.triangular.specs.Triangular.{regular};
 ghost use Rattle.eigen.specs.Eigen.{given};
 ghost use Rattle.scaled.specs.System.{system};
-ghost use Rattle.factor.specs.Factor as Factor;
-ghost use Rattle.factored.specs.Factored.{solveFactored};
+ghost use Rattle.factor_update.specs.Factor as Factor;
+ghost use Rattle.range_space.specs.Factored.{solveFactored};
 ghost use Rattle.probe.specs.Probe as Probe;
 ghost use Rattle.probe.specs.Hooks as Hooks;
 
@@ -107,7 +107,7 @@ fn all_but(n: usize, i: usize, list: &mut [usize]) -> usize
 {
     let mut s = [true; sizes::ORIGINALS];
     s[i] = false;
-    factor::rising(s, n, list)
+    factor_update::rising(s, n, list)
 }
 
 fn changed(
@@ -131,7 +131,7 @@ fn changed(
     let k = all_but(n, joins, &mut held);
     let mut indices = [0; sizes::ORIGINALS];
     let m = all_but(n, leaves, &mut indices);
-    factor::updated(q, n, n, &held[..k], &indices[..m], l, room)
+    factor_update::updated(q, n, n, &held[..k], &indices[..m], l, room)
 }
 
 fn updated(
@@ -186,7 +186,7 @@ fn fresh(q: &[f64], n: usize, l: &mut [f64], room: &mut [f64]) -> bool
     }
     if shaped(n, q.len(), l.len(), n, room.len()) {
         let mut indices = [0; sizes::ORIGINALS];
-        let k = factor::rising([true; sizes::ORIGINALS], n, &mut indices);
+        let k = factor_update::rising([true; sizes::ORIGINALS], n, &mut indices);
         return factoring::fresh(q, n, &indices[..k], l, room);
     }
     false
@@ -294,7 +294,7 @@ fn solved(
     ensures { λ r. ⌜ Hooks.answered r (now (x .exit)) (now (multipliers .exit))
         ≡ solveFactored (now (l .entry)) (system n m (now (k .entry)) (now (c .entry)) (now (e .entry)) (now (b .entry))) noise ⌝ }
 {
-    let f = factored::solve_factored(l, k, c, e, b, n, m, noise, w, gram);
+    let f = range_space::solve_factored(l, k, c, e, b, n, m, noise, w, gram);
     let fx = f.x;
     let fm = f.multipliers;
     given(f.found, fx, fm, n, m, x, multipliers)

@@ -5,11 +5,11 @@ ghost use Rattle.format.specs.Read as Read;
 ghost use Rattle.format.specs.Structs.{blockOf, readOf, Sound};
 ghost use Rattle.block.specs.Ranges.{Ranged};
 use format::Anchor;
-use format::Answer;
 use format::Block;
 use format::Counts;
 use format::Pair;
 use format::Pairs;
+use format::Reading;
 use format::Span;
 use format::Tempo;
 use format::Verdict;
@@ -75,18 +75,18 @@ fn end_verdict(last: u64, words: usize) -> Verdict
 }
 
 // A refusal holds no block: the empty one.
-fn refused(v: Verdict) -> Answer
+fn refused(v: Verdict) -> Reading
     ensures { λ r. ⌜ (r .verdict ≡ v) × (blockOf (r .block) ≡ Read.empty) × Sound (r .block) ⌝ }
 {
     let block = empty();
-    Answer {
+    Reading {
         verdict: v,
         block: block,
     }
 }
 
 // Reads the block file s.
-pub fn read(s: &[u8]) -> Answer
+pub fn read(s: &[u8]) -> Reading
     ensures { λ r. ⌜ readOf r ≡ Read.read (now (s .entry)) ⌝ }
     ensures { λ r. ⌜ Sound (r .block) ⌝ }
     ensures { λ r. ⌜ (Read.accepted (r .verdict) ≡ true → Ranged (blockOf (r .block))) ⌝ }
@@ -135,7 +135,7 @@ pub fn read(s: &[u8]) -> Answer
     let words = block.words;
     let v = end_verdict(last, words);
     if numbers::accepted(v) {
-        return Answer {
+        return Reading {
             verdict: v,
             block: block,
         };

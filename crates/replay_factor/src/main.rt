@@ -5,7 +5,7 @@ ghost use Prim.Native.Nat.{_*_, _≤_};
 ghost use lib.ListN.{length};
 ghost use Rattle.sizes.specs.Sizes as Sizes;
 ghost use Rattle.scaled.specs.System.{Sized};
-ghost use Rattle.factor.specs.Room.{Block};
+ghost use Rattle.factor_update.specs.Room.{Block};
 ghost use Rattle.factoring.specs.Kept as Kept;
 use factoring::Factoring;
 use factoring::Listed;
@@ -38,7 +38,7 @@ fn lists_differ(a: &[usize], b: &[usize]) -> bool {
 // Whether a list is not the set of these bits.
 fn set_differs(kept: Listed, bits: usize) -> bool {
     let mut set = [0; ORIGINALS];
-    let k = factor::rising(marks(bits), ORIGINALS, &mut set);
+    let k = factor_update::rising(marks(bits), ORIGINALS, &mut set);
     let list = kept.list;
     let n = kept.count;
     if n > ORIGINALS {
@@ -124,7 +124,7 @@ fn update(s: &[u8], q: &[f64], n: usize, originals: usize, l: &mut [f64], w: Seq
     let bits = replay::number32(s, replay::past(s, w.at, 1));
     let mut list = [0; ORIGINALS];
     let mut room = [0.0; 1536];
-    let k = factor::rising(marks(bits), originals, &mut list);
+    let k = factor_update::rising(marks(bits), originals, &mut list);
     let kept = w.kept;
     let f = kept.update(q, n, originals, &list[..k], l, &mut room);
     compare_update(s, replay::past(s, w.at, 5), bits, f, l, w)
@@ -232,7 +232,7 @@ fn run_sequence(s: &[u8]) -> Replayed {
 }
 
 // The outcome byte is at a place.
-fn compare_solution(s: &[u8], at: usize, n: usize, m: usize, found: factored::Found) -> Replayed
+fn compare_solution(s: &[u8], at: usize, n: usize, m: usize, found: range_space::Found) -> Replayed
     requires { ⌜ (n ≤ Sizes.originals) × (m ≤ Sizes.columns) ⌝ }
 {
     let place = replay::past(s, at, 1);
@@ -275,7 +275,7 @@ fn compare_system(
     }
     let mut w = [0.0; 768];
     let mut gram = [0.0; 576];
-    let found = factored::solve_factored(l, k, c, e, b, n, m, noise, &mut w, &mut gram);
+    let found = range_space::solve_factored(l, k, c, e, b, n, m, noise, &mut w, &mut gram);
     compare_solution(s, at, n, m, found)
 }
 

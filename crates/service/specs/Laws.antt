@@ -38,7 +38,7 @@ module _ (b : Block) (room : ℕ) where
     unfolding placeBlock ofEngine Engine.number
     engine-refused n e z = pick-true _ _ (le-leb _ _ h) (refuses (solveBlock b) e)
       where
-        refuses : (a : Engine.Answer) → n ≡ Engine.number a → refused n ≡ ofEngine b a
+        refuses : (a : Engine.CappedAnswer) → n ≡ Engine.number a → refused n ≡ ofEngine b a
         refuses Engine.wrongShape q = ap refused q
         refuses Engine.blankBound q = ap refused q
         refuses (engine (optimal x multipliers passes raise)) q = absurd (z q)
@@ -87,7 +87,7 @@ module _ {b : Block} (R : Ranged b) where
   unfolding placeBlock numberOf
   block-numbered room =
       let a = engine-always b R in
-      pick-keep Numbered _ (subst (λ (e : Engine.Answer). Numbered (ofEngine b e)) (sym (a .1)) (engine-numbered (a .0) (a .1))) (inr (inl refl))
+      pick-keep Numbered _ (subst (λ (e : Engine.CappedAnswer). Numbered (ofEngine b e)) (sym (a .1)) (engine-numbered (a .0) (a .1))) (inr (inl refl))
 
 pub place-numbered : (s : List ℕ) (room : ℕ) (b : Block) → read s ≡ Outcome.block b → Numbered (place s room)
 place-numbered s room b e = subst Numbered (block-placed s room b e) (block-numbered (read-ranged s b e) room)
@@ -115,7 +115,7 @@ module _ {b : Block} (R : Ranged b) {a : Answer} where
       (λ w. absurd (let y : _≡_ {A = ℕ} 0 1 = cc in omega arith))
       (written-by R x multipliers raise (z .x-long) (z .multipliers-long) passes)
 
-  engine-answer : (e : Engine.Answer) → solveBlock b ≡ e → ofEngine b e ≡ answered a → Answers b a
+  engine-answer : (e : Engine.CappedAnswer) → solveBlock b ≡ e → ofEngine b e ≡ answered a → Answers b a
   unfolding ofEngine
   engine-answer Engine.wrongShape s e = absurd (let z : _≡_ {A = ℕ} 0 1 = cc in omega arith)
   engine-answer Engine.blankBound s e = absurd (let z : _≡_ {A = ℕ} 0 1 = cc in omega arith)

@@ -9,8 +9,8 @@ use Rattle.units.specs.Units.{columnScales, unitsK, unitsC, unitsE, unitsB}
 use Rattle.segments.specs.declared.Segments.{Segments}
 use Rattle.slacks.specs.Slacks.{withSlacksQ, withSlacksE, withZeros, scalesWithSlacks, segmentsArray, slacksStart}
 use Rattle.iterate.specs.Problem.{problem}
-use Rattle.active.specs.Answer as Engine
-use Rattle.active.specs.Answer.{optimal, nonFinite, singular, unbounded, notConverged}
+use Rattle.active.specs.Minimized as Engine
+use Rattle.active.specs.Minimized.{optimal, nonFinite, singular, unbounded, notConverged}
 use Rattle.active.specs.Active.{budget}
 use Rattle.active.specs.Laws.{Filled, Within}
 use Rattle.in_units.specs.InUnits.{solvePiecewiseInUnits}
@@ -20,7 +20,7 @@ use Rattle.slack_solve.specs.SlackSolve.{restored, original, solveScaled
 
 -- ---- a solve
 module _ (n m r : ℕ) (c b lower upper a rowLower rowUpper at slopes start : List Float) where
-  pub scaled-from : {s : Engine.Answer} {c' b' uc ub first : List Float} {segments : List Segments} (uq ue scales columns : List Float) →
+  pub scaled-from : {s : Engine.Minimized} {c' b' uc ub first : List Float} {segments : List Segments} (uq ue scales columns : List Float) →
       c' ≡ withZeros n r c → b' ≡ withZeros m r b → uc ≡ unitsC (n + r) c' scales → ub ≡ unitsB (m + r) b' columns →
       segments ≡ segmentsArray n r lower upper at slopes rowLower rowUpper scales → first ≡ slacksStart n r start a scales →
       s ≡ solvePiecewiseInUnits (problem n (n + r) (m + r) uq uc ue ub) segments first →
@@ -29,7 +29,7 @@ module _ (n m r : ℕ) (c b lower upper a rowLower rowUpper at slopes start : Li
   scaled-from uq ue scales columns f g h i j k s = s ∙ rw (h, i, j, k, f, g)
 
 module _ (n m r : ℕ) (c e b lower upper a rowLower rowUpper at slopes start : List Float) where
-  pub with-slacks-from : {s t : Engine.Answer} {scales columns uq ue : List Float} (qAll eAll : List Float) →
+  pub with-slacks-from : {s t : Engine.Minimized} {scales columns uq ue : List Float} (qAll eAll : List Float) →
       scales ≡ scalesWithSlacks n r qAll a → columns ≡ columnScales (n + r) (m + r) eAll →
       uq ≡ unitsK (n + r) qAll scales → ue ≡ unitsE (n + r) (m + r) eAll scales columns →
       t ≡ solveScaled n m r uq ue c b lower upper a rowLower rowUpper at slopes start scales columns →
@@ -38,7 +38,7 @@ module _ (n m r : ℕ) (c e b lower upper a rowLower rowUpper at slopes start : 
   unfolding solveWithSlacks
   with-slacks-from qAll eAll f g h i t s = s ∙ rw (t, h, i, f, g)
 
-  pub solve-from : {s : Engine.Answer} {qAll eAll : List Float} (q : List Float) → qAll ≡ withSlacksQ n r q → eAll ≡ withSlacksE n m r e a →
+  pub solve-from : {s : Engine.Minimized} {qAll eAll : List Float} (q : List Float) → qAll ≡ withSlacksQ n r q → eAll ≡ withSlacksE n m r e a →
       s ≡ solveWithSlacks n m r qAll eAll c e b lower upper a rowLower rowUpper at slopes start →
       s ≡ solve (quadratic n m r q c e b lower upper a rowLower rowUpper at slopes start)
   unfolding solve
@@ -46,7 +46,7 @@ module _ (n m r : ℕ) (c e b lower upper a rowLower rowUpper at slopes start : 
 
 -- ---- an optimal answer has x's n entries and m + r multipliers, and its passes are from 1 to the budget
 module _ (n m r : ℕ) (e b a rowLower rowUpper scales columns : List Float) where
-  original-filled : (s : Engine.Answer) → Filled n (m + r) (original n m r e b a rowLower rowUpper scales columns s)
+  original-filled : (s : Engine.Minimized) → Filled n (m + r) (original n m r e b a rowLower rowUpper scales columns s)
   unfolding original restored
   original-filled (optimal u multipliers passes) =
       pick-keep (Filled n (m + r)) _ (length-div n u scales, length-div (m + r) multipliers columns) tt
@@ -55,7 +55,7 @@ module _ (n m r : ℕ) (e b a rowLower rowUpper scales columns : List Float) whe
   original-filled unbounded = tt
   original-filled notConverged = tt
 
-  original-within : (budget : ℕ) (s : Engine.Answer) → Within budget s → Within budget (original n m r e b a rowLower rowUpper scales columns s)
+  original-within : (budget : ℕ) (s : Engine.Minimized) → Within budget s → Within budget (original n m r e b a rowLower rowUpper scales columns s)
   unfolding original restored
   original-within budget (optimal u multipliers passes) w = pick-keep (Within budget) _ w tt
   original-within budget nonFinite w = tt

@@ -3,13 +3,13 @@ ghost use mathlib.Core.Path.{_≡_};
 ghost use Prim.Native.Nat.{_≤_, _+_, _*_};
 ghost use lib.ListN.{length, take};
 ghost use Rattle.sizes.specs.Sizes as Sizes;
-ghost use Rattle.active.specs.Answer.{answer, answerOf};
+ghost use Rattle.active.specs.Minimized.{minimized, minimizedOf};
 ghost use Rattle.quadratic.specs.Quadratic.{quadratic};
 ghost use Rattle.quadratic.specs.Holds.{Holds};
 ghost use Rattle.slack_solve.specs.SlackSolve as Definition;
 ghost use Rattle.slack_solve.specs.Holds.{Restores};
-use active::Answer;
-use active::Verdict;
+use active::Minimum;
+use active::SolveVerdict;
 
 // The entries of a matrix of work memory, which has a row for each variable with the slacks and as many columns, or a column for each column of E
 // with the slacks; and of either in a small problem.
@@ -65,9 +65,9 @@ fn restored(
     n: usize,
     m: usize,
     r: usize,
-) -> Answer
+) -> Minimum
     requires { ⌜ Restores n m r (now e) (now b) (now a) (now «row_lower») (now «row_upper») (now scales) (now columns) ⌝ }
-    ensures { λ s. ⌜ answerOf n (m + r) s
+    ensures { λ s. ⌜ minimizedOf n (m + r) s
         ≡ Definition.restored n m r (now (e .entry)) (now (b .entry)) (now (a .entry)) (now («row_lower» .entry)) (now («row_upper» .entry))
         (now (scales .entry)) (now (columns .entry)) (take (n + r) u) (take (m + r) lambda) passes ⌝ }
 {
@@ -77,19 +77,19 @@ fn restored(
     if feasible(&x[..n], e, b, columns, a, row_lower, row_upper, n, m, r) {
         let mut multipliers = [0.0; sizes::COLUMNS];
         vector::div(&lambda[..w], columns, w, &mut multipliers);
-        return Answer {
-            verdict: Verdict::Optimal,
+        return Minimum {
+            verdict: SolveVerdict::Optimal,
             x: x,
             multipliers: multipliers,
             passes: passes,
         };
     }
-    active::refused(Verdict::SingularCovariance)
+    active::refused(SolveVerdict::SingularCovariance)
 }
 
 // What is refused passes.
 fn original(
-    verdict: Verdict,
+    verdict: SolveVerdict,
     u: [f64; sizes::VARIABLES],
     lambda: [f64; sizes::COLUMNS],
     passes: usize,
@@ -103,14 +103,14 @@ fn original(
     n: usize,
     m: usize,
     r: usize,
-) -> Answer
+) -> Minimum
     requires { ⌜ Restores n m r (now e) (now b) (now a) (now «row_lower») (now «row_upper») (now scales) (now columns) ⌝ }
-    ensures { λ s. ⌜ answerOf n (m + r) s
+    ensures { λ s. ⌜ minimizedOf n (m + r) s
         ≡ Definition.original n m r (now (e .entry)) (now (b .entry)) (now (a .entry)) (now («row_lower» .entry)) (now («row_upper» .entry))
-        (now (scales .entry)) (now (columns .entry)) (answer verdict (take (n + r) u) (take (m + r) lambda) passes) ⌝ }
+        (now (scales .entry)) (now (columns .entry)) (minimized verdict (take (n + r) u) (take (m + r) lambda) passes) ⌝ }
 {
     match verdict {
-        Verdict::Optimal => restored(
+        SolveVerdict::Optimal => restored(
             u,
             lambda,
             passes,
@@ -125,10 +125,10 @@ fn original(
             m,
             r,
         ),
-        Verdict::NonFiniteCovariance => active::refused(Verdict::NonFiniteCovariance),
-        Verdict::SingularCovariance => active::refused(Verdict::SingularCovariance),
-        Verdict::Unbounded => active::refused(Verdict::Unbounded),
-        Verdict::NotConverged => active::refused(Verdict::NotConverged),
+        SolveVerdict::NonFiniteCovariance => active::refused(SolveVerdict::NonFiniteCovariance),
+        SolveVerdict::SingularCovariance => active::refused(SolveVerdict::SingularCovariance),
+        SolveVerdict::Unbounded => active::refused(SolveVerdict::Unbounded),
+        SolveVerdict::NotConverged => active::refused(SolveVerdict::NotConverged),
     }
 }
 
@@ -151,14 +151,14 @@ fn solve_scaled(
     n: usize,
     m: usize,
     r: usize,
-) -> Answer
+) -> Minimum
     requires { ⌜ Holds n m r (now c) (now b) (now lower) (now upper) (now a) (now «row_lower») (now «row_upper») (now at) (now slopes)
         (now start)
         × ((n + r) * (n + r) ≤ length (now uq))
         × ((n + r) * (m + r) ≤ length (now ue))
         × (n + r ≤ length (now scales))
         × (m + r ≤ length (now columns)) ⌝ }
-    ensures { λ s. ⌜ answerOf (n + r) (m + r) s
+    ensures { λ s. ⌜ minimizedOf (n + r) (m + r) s
         ≡ Definition.solveScaled n m r (now (uq .entry)) (now (ue .entry)) (now (c .entry)) (now (b .entry)) (now (lower .entry)) (now (upper .entry))
         (now (a .entry)) (now («row_lower» .entry)) (now («row_upper» .entry)) (now (at .entry)) (now (slopes .entry)) (now (start .entry))
         (now (scales .entry)) (now (columns .entry)) ⌝ }
@@ -202,13 +202,13 @@ fn solve_with_slacks(
     n: usize,
     m: usize,
     r: usize,
-) -> Answer
+) -> Minimum
     requires { ⌜ Holds n m r (now c) (now b) (now lower) (now upper) (now a) (now «row_lower») (now «row_upper») (now at) (now slopes)
         (now start)
         × (n * m ≤ length (now e))
         × (length (now «q_all») ≡ (n + r) * (n + r))
         × (length (now «e_all») ≡ (n + r) * (m + r)) ⌝ }
-    ensures { λ s. ⌜ answerOf n (m + r) s
+    ensures { λ s. ⌜ minimizedOf n (m + r) s
         ≡ Definition.solveWithSlacks n m r (now («q_all» .entry)) (now («e_all» .entry)) (now (c .entry)) (now (e .entry)) (now (b .entry))
         (now (lower .entry)) (now (upper .entry)) (now (a .entry)) (now («row_lower» .entry)) (now («row_upper» .entry)) (now (at .entry))
         (now (slopes .entry)) (now (start .entry)) ⌝ }
@@ -278,14 +278,14 @@ fn solve_in(
     r: usize,
     q_all: &mut [f64],
     e_all: &mut [f64],
-) -> Answer
+) -> Minimum
     requires { ⌜ Holds n m r (now c) (now b) (now lower) (now upper) (now a) (now «row_lower») (now «row_upper») (now at) (now slopes)
         (now start)
         × (n * n ≤ length (now q))
         × (n * m ≤ length (now e))
         × ((n + r) * (n + r) ≤ length (now «q_all»))
         × ((n + r) * (m + r) ≤ length (now «e_all»)) ⌝ }
-    ensures { λ s. ⌜ answerOf n (m + r) s
+    ensures { λ s. ⌜ minimizedOf n (m + r) s
         ≡ Definition.solve (quadratic n m r (now (q .entry)) (now (c .entry)) (now (e .entry)) (now (b .entry)) (now (lower .entry))
         (now (upper .entry)) (now (a .entry)) (now («row_lower» .entry)) (now («row_upper» .entry)) (now (at .entry)) (now (slopes .entry))
         (now (start .entry))) ⌝ }
@@ -331,14 +331,14 @@ fn solve_small(
     n: usize,
     m: usize,
     r: usize,
-) -> Answer
+) -> Minimum
     requires { ⌜ Holds n m r (now c) (now b) (now lower) (now upper) (now a) (now «row_lower») (now «row_upper») (now at) (now slopes)
         (now start)
         × (n * n ≤ length (now q))
         × (n * m ≤ length (now e))
         × (n ≤ Sizes.few)
         × (r ≤ Sizes.few) ⌝ }
-    ensures { λ s. ⌜ answerOf n (m + r) s
+    ensures { λ s. ⌜ minimizedOf n (m + r) s
         ≡ Definition.solve (quadratic n m r (now (q .entry)) (now (c .entry)) (now (e .entry)) (now (b .entry)) (now (lower .entry))
         (now (upper .entry)) (now (a .entry)) (now («row_lower» .entry)) (now («row_upper» .entry)) (now (at .entry)) (now (slopes .entry))
         (now (start .entry))) ⌝ }
@@ -382,12 +382,12 @@ fn solve_large(
     n: usize,
     m: usize,
     r: usize,
-) -> Answer
+) -> Minimum
     requires { ⌜ Holds n m r (now c) (now b) (now lower) (now upper) (now a) (now «row_lower») (now «row_upper») (now at) (now slopes)
         (now start)
         × (n * n ≤ length (now q))
         × (n * m ≤ length (now e)) ⌝ }
-    ensures { λ s. ⌜ answerOf n (m + r) s
+    ensures { λ s. ⌜ minimizedOf n (m + r) s
         ≡ Definition.solve (quadratic n m r (now (q .entry)) (now (c .entry)) (now (e .entry)) (now (b .entry)) (now (lower .entry))
         (now (upper .entry)) (now (a .entry)) (now («row_lower» .entry)) (now («row_upper» .entry)) (now (at .entry)) (now (slopes .entry))
         (now (start .entry))) ⌝ }
@@ -432,12 +432,12 @@ pub fn solve_shaped(
     n: usize,
     m: usize,
     r: usize,
-) -> Answer
+) -> Minimum
     requires { ⌜ Holds n m r (now c) (now b) (now lower) (now upper) (now a) (now «row_lower») (now «row_upper») (now at) (now slopes)
         (now start)
         × (n * n ≤ length (now q))
         × (n * m ≤ length (now e)) ⌝ }
-    ensures { λ s. ⌜ answerOf n (m + r) s
+    ensures { λ s. ⌜ minimizedOf n (m + r) s
         ≡ Definition.solve (quadratic n m r (now (q .entry)) (now (c .entry)) (now (e .entry)) (now (b .entry)) (now (lower .entry))
         (now (upper .entry)) (now (a .entry)) (now («row_lower» .entry)) (now («row_upper» .entry)) (now (at .entry)) (now (slopes .entry))
         (now (start .entry))) ⌝ }

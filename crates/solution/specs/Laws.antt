@@ -5,8 +5,8 @@ use Prim.Native.Nat.{ℕ}
 use lib.ListN.{length, take}
 use lib.Ieee.{Float}
 use Rattle.folds.specs.Tab.{length-tab}
-use Rattle.solution.specs.declared.Verdict.{Verdict}
-use Rattle.solution.specs.declared.Verdict.the-variants.{Solved, NoOptimum, NonFiniteCovariance, SingularCovariance}
+use Rattle.solution.specs.declared.KktVerdict.{KktVerdict}
+use Rattle.solution.specs.declared.KktVerdict.the-variants.{Solved, NoOptimum, NonFiniteCovariance, SingularCovariance}
 use Rattle.solution.specs.declared.Solution.{Solution}
 use Rattle.solution.specs.Solution.{optimum, noOptimum, nonFinite, singular, answer, solutionOf, rescaledMultipliers, rescaled}
 
@@ -51,7 +51,7 @@ unfolding rescaledMultipliers
 length-rescaledMultipliers m multipliers scale columns = length-tab m _
 
 -- the verdict stays
-pub rescaled-answer : {l : List Float} (verdict : Verdict) (m : ℕ) (scale : Float) (columns x multipliers : List Float) →
+pub rescaled-answer : {l : List Float} (verdict : KktVerdict) (m : ℕ) (scale : Float) (columns x multipliers : List Float) →
     l ≡ rescaledMultipliers m multipliers scale columns → answer verdict x l ≡ rescaled m scale columns (answer verdict x multipliers)
 unfolding answer rescaled
 rescaled-answer Solved m scale columns x multipliers e = ap (optimum x) e

@@ -10,8 +10,8 @@ use Rattle.scaled.specs.System.{System, system}
 use Rattle.scaled.specs.Scaled.{kktResidual, withinRounding}
 use Rattle.scaled.specs.declared.Rounding.{Rounding}
 use Rattle.scaled.specs.declared.Rounding.the-variants.{Overflowed, Outside, Within}
-use Rattle.solution.specs.declared.Verdict.{Verdict}
-use Rattle.solution.specs.declared.Verdict.the-variants.{Solved, NoOptimum, NonFiniteCovariance, SingularCovariance}
+use Rattle.solution.specs.declared.KktVerdict.{KktVerdict}
+use Rattle.solution.specs.declared.KktVerdict.the-variants.{Solved, NoOptimum, NonFiniteCovariance, SingularCovariance}
 use Rattle.solution.specs.declared.Solution.{Solution}
 
 -- `Ok(Some((x, multipliers)))`, `Ok(None)`, and what is refused
@@ -21,7 +21,7 @@ pub data Kkt : Type 0 where
   nonFinite : Kkt
   singular : Kkt
 
-unfoldable pub answer : Verdict → (x multipliers : List Float) → Kkt
+unfoldable pub answer : KktVerdict → (x multipliers : List Float) → Kkt
 answer Solved x multipliers = optimum x multipliers
 answer NoOptimum x multipliers = noOptimum
 answer NonFiniteCovariance x multipliers = nonFinite

@@ -9,7 +9,7 @@ ghost use Rattle.solution.specs.Solution as Definition;
 use scaled::Rounding;
 
 // What a solve answers.
-pub enum Verdict {
+pub enum KktVerdict {
     Solved,
     NoOptimum,
     NonFiniteCovariance,
@@ -18,12 +18,12 @@ pub enum Verdict {
 
 // A verdict and, where it is Solved, x and the multipliers.
 pub struct Solution {
-    pub verdict: Verdict,
+    pub verdict: KktVerdict,
     pub x: [f64; sizes::VARIABLES],
     pub multipliers: [f64; sizes::COLUMNS],
 }
 
-pub fn refused(verdict: Verdict) -> Solution
+pub fn refused(verdict: KktVerdict) -> Solution
     ensures { λ r. ⌜ r .verdict ≡ verdict ⌝ }
 {
     Solution {
@@ -51,17 +51,17 @@ pub fn judged(
 {
     let residual = scaled::kkt_residual(k, c, e, b, &x[..n], &multipliers[..m], n, m, noise);
     match scaled::within_rounding(residual) {
-        Rounding::Overflowed => refused(Verdict::SingularCovariance),
-        Rounding::Outside => refused(Verdict::NoOptimum),
+        Rounding::Overflowed => refused(KktVerdict::SingularCovariance),
+        Rounding::Outside => refused(KktVerdict::NoOptimum),
         Rounding::Within => {
             if vector::all_finite(&x[..n], n) {
                 return Solution {
-                    verdict: Verdict::Solved,
+                    verdict: KktVerdict::Solved,
                     x: x,
                     multipliers: multipliers,
                 };
             }
-            refused(Verdict::SingularCovariance)
+            refused(KktVerdict::SingularCovariance)
         }
     }
 }
@@ -92,7 +92,7 @@ fn rescaled_multipliers(
 
 // The multipliers of the system before K and the columns of E were scaled.
 pub fn rescaled(
-    verdict: Verdict,
+    verdict: KktVerdict,
     x: [f64; sizes::VARIABLES],
     multipliers: [f64; sizes::COLUMNS],
     scale: f64,

@@ -2,7 +2,7 @@ use Rattle.folds.specs.Kit.{_≡_, refl, sym, _∙_, _+_, _≤_, arith, length,
 use lib.ListN.{take}
 use lib.Seq.{length-take-le}
 use Rattle.sizes.specs.Sizes as Sizes
-use Rattle.active.specs.Laws.{answerOf-optimal, answerOf-nonFinite, answerOf-singular, answerOf-unbounded, answerOf-notConverged}
+use Rattle.active.specs.Laws.{minimizedOf-optimal, minimizedOf-nonFinite, minimizedOf-singular, minimizedOf-unbounded, minimizedOf-notConverged}
 use Rattle.bracket.specs.Ends.{new-rising}
 use Rattle.bracket.specs.Laws.{new-of}
 use Rattle.cap.specs.Capped.{searchBy}
@@ -38,7 +38,7 @@ slice-aggregate-within c = sym (length-take-le _ _ (fits (start (c .before .befo
 returns : tie.Need-returns
 returns c =
     let t = c .before .before .before in
-    rw (answerOf-optimal _ _ (start (t .before) .args .solved) (t .before .before .before .before .enum-told .given .1))
+    rw (minimizedOf-optimal _ _ (start (t .before) .args .solved) (t .before .before .before .before .enum-told .given .1))
     (search-free _ _ _ _ _ _ _ _ _ _ _ _ _ _ _ _ _ _ _ _ (t .turnover .ensures) (sym (c .before .within .ensures) ∙ c .if1 .taken)
     (cappedOf-optimal _ _ _ refl))
 
@@ -58,7 +58,7 @@ returns-2 c =
     let t = k .before .before .before in
     let s = start (t .before) in
     let a = s .args in
-    rw (answerOf-optimal _ _ (a .solved) (t .before .before .before .before .enum-told .given .1))
+    rw (minimizedOf-optimal _ _ (a .solved) (t .before .before .before .before .enum-told .given .1))
     (search-past _ _ _ _ _ _ _ _ _ _ _ _ _ _ _ _ _ _ _ _ (t .turnover .ensures) (sym (k .before .within .ensures) ∙ k .if1 .left)
     (new-of (a .n) (a .m + a .r) _ _ _ (c .before .before .new .ensures) (columns-fit s))
     (c .before .reach-and-narrow .ensures) (c .accepted .ensures _ _))
@@ -67,7 +67,7 @@ returns-3 : tie.Need-returns-3
 returns-3 c =
     let s = start-2 (c .before .before .before .before) in
     let a = s .args in
-    rw (answerOf-unbounded _ _ (a .solved) (c .before .before .before .before .enum-told2 .given .1))
+    rw (minimizedOf-unbounded _ _ (a .solved) (c .before .before .before .before .enum-told2 .given .1))
     (search-unbounded _ _ _ _ _ _ _ _ _ _ _ _ _ _ _ _ _ (c .before .before .before .infinity .ensures)
     (new-of (a .n) (a .m + a .r) _ _ _ (c .before .before .new2 .ensures) (columns-fit s))
     (c .before .reach-and-narrow2 .ensures) (c .accepted2 .ensures _ _))
@@ -101,9 +101,9 @@ search-by-spec =
     (λ c κs. search needs)  -- refused-requires-3
     returns-2
     returns-3
-    (λ c. search-as _ _ _ _ _ _ _ _ _ _ _ _ _ _ _ _ _ (answerOf-nonFinite _ _ _ (c .before .enum-told3 .given .1))
+    (λ c. search-as _ _ _ _ _ _ _ _ _ _ _ _ _ _ _ _ _ (minimizedOf-nonFinite _ _ _ (c .before .enum-told3 .given .1))
     (cappedOf-nonFinite _ _ _ (c .refused .ensures)))  -- returns-4
-    (λ c. search-as _ _ _ _ _ _ _ _ _ _ _ _ _ _ _ _ _ (answerOf-singular _ _ _ (c .before .enum-told4 .given .1))
+    (λ c. search-as _ _ _ _ _ _ _ _ _ _ _ _ _ _ _ _ _ (minimizedOf-singular _ _ _ (c .before .enum-told4 .given .1))
     (cappedOf-singular _ _ _ (c .refused2 .ensures)))  -- returns-5
-    (λ c. search-as _ _ _ _ _ _ _ _ _ _ _ _ _ _ _ _ _ (answerOf-notConverged _ _ _ (c .before .enum-told5 .given .1))
+    (λ c. search-as _ _ _ _ _ _ _ _ _ _ _ _ _ _ _ _ _ (minimizedOf-notConverged _ _ _ (c .before .enum-told5 .given .1))
     (cappedOf-notConverged _ _ _ (c .refused3 .ensures))))  -- returns-6

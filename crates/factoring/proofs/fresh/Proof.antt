@@ -3,7 +3,7 @@ use Rattle.folds.specs.Tab.{taken-over}
 use lib.ListN.{take}
 use Rattle.matrix.specs.Matrix.{selectRows}
 use Rattle.matrix.specs.Laws.{length-selectRows}
-use Rattle.factoring.specs.Kept.{block, fresh}
+use Rattle.factoring.specs.Kept.{submatrix, fresh}
 use Rattle.factoring.proofs.fresh.Statement.{statement}
 use Rattle.factoring.proofs.fresh.Tie as tie
 
@@ -21,7 +21,7 @@ select-columns-requires c κs =
     (omega (arith, slice-aggregate-select-columns (c .before)), omega arith, p .1, omega (arith, p .2))
 
 pub fresh-spec : {M : Type 1} → statement M
-unfolding fresh block
+unfolding fresh submatrix
 fresh-spec =
     tie.close
     (tie.spec (λ c. search kit)

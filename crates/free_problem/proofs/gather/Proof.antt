@@ -22,13 +22,13 @@ known c = c .before .before .before .before .before .before .before .before .bef
 abbrev start : tie.After-kept-columns → tie.Start
 start c = known (c .before .before)
 
-abbrev kept-at : tie.After-block → tie.After-kept-columns
+abbrev kept-at : tie.After-submatrix → tie.After-kept-columns
 kept-at c = c .before .before .before .before .before
 
-abbrev entries-at : tie.After-block2 → tie.After-block
+abbrev entries-at : tie.After-submatrix2 → tie.After-submatrix
 entries-at c = c .before .before .before .before .before .before .before
 
-abbrev square-at : tie.After-linear → tie.After-block2
+abbrev square-at : tie.After-linear → tie.After-submatrix2
 square-at c = c .before .before .before .before .before .before
 
 abbrev linear-at : tie.After-gradient → tie.After-linear
@@ -46,7 +46,7 @@ linear-of c = linear-at (gradient-at (residuals-at c))
 abbrev kept-of : tie.After-residuals-at → tie.After-kept-columns
 kept-of c = kept-at (entries-at (square-at (linear-at (gradient-at c))))
 
-abbrev start-of : tie.After-block2 → tie.Start
+abbrev start-of : tie.After-submatrix2 → tie.Start
 start-of c = start (kept-at (entries-at c))
 
 abbrev start-at : tie.After-linear → tie.Start
@@ -81,10 +81,10 @@ solved-few c = le-trans (c .pre .4) (c .pre .0 .few)
 kept-fits : (c : tie.After-kept-columns) → c .kept-columns .result ≤ length (written c)
 kept-fits c = rw (c .kept-columns .kept .1 .1 .1 .1 .1 .1 .1 .0) (le-trans (few c) (start c .pre .0 .columns))
 
-rows-fit : (c : tie.After-block2) → length (start-of c .args .solved .now) * start-of c .args .counts .n ≤ length (c .block2 .last .1 .1 .1 .1 .1 .0)
+rows-fit : (c : tie.After-submatrix2) → length (start-of c .args .solved .now) * start-of c .args .counts .n ≤ length (c .submatrix2 .last .1 .1 .1 .1 .1 .0)
 rows-fit c =
     let p = start-of c .pre in
-    rw (c .block2 .kept .1 .1 .1 .1 .1 .0, entries-at c .block .kept .1 .1 .1 .1 .1 .0) (le-trans (area (p .4) (le-refl _)) (p .6))
+    rw (c .submatrix2 .kept .1 .1 .1 .1 .1 .0, entries-at c .submatrix .kept .1 .1 .1 .1 .1 .0) (le-trans (area (p .4) (le-refl _)) (p .6))
 
 c-fits : (c : tie.After-linear) → length (start-at c .args .solved .now) ≤ length (c .linear .last .1 .1 .1 .1 .0)
 c-fits c = rw (c .linear .kept .1 .1 .1 .1 .0) (solved-few (start-at c))
@@ -98,8 +98,8 @@ mul-rows c =
     let s = known c in
     let h : _ ≤ Sizes.originals * Sizes.variables = area (solved-few s) (s .pre .0 .variables) in omega (arith, h)
 
-block-requires : tie.Need-block-requires
-block-requires c κs =
+submatrix-requires : tie.Need-submatrix-requires
+submatrix-requires c κs =
     let k = c .before .before .before .before in
     let p = start k .pre in (
       p .0 .e-holds,
@@ -109,14 +109,14 @@ block-requires c κs =
       le-trans (area (p .4) (rw (listed k) (kept-few _ _ _ _ _ _ _))) (p .9),
     )
 
-block-requires-2 : tie.Need-block-requires-2
-block-requires-2 c κs =
+submatrix-requires-2 : tie.Need-submatrix-requires-2
+submatrix-requires-2 c κs =
     let e = c .before .before .before .before .before .before in
     let p = start (kept-at e) .pre in (
       p .0 .q-holds,
       p .2 .below,
       p .2 .below,
-      rw (e .block .kept .1 .1 .1 .1 .1 .0) (le-trans (area (p .4) (le-refl _)) (p .6)),
+      rw (e .submatrix .kept .1 .1 .1 .1 .1 .0) (le-trans (area (p .4) (le-refl _)) (p .6)),
       le-trans (area (p .4) (p .4)) (p .8),
     )
 
@@ -170,7 +170,7 @@ returns c =
     let b = square-at l in
     let e = entries-at b in
     let k = kept-at e in (
-      gather-from _ _ _ _ _ _ _ _ _ _ _ _ _ _ (counted k) (listed k) (b .block2 .ensures .0) (b .block2 .ensures .1) (e .block .ensures .1)
+      gather-from _ _ _ _ _ _ _ _ _ _ _ _ _ _ (counted k) (listed k) (b .submatrix2 .ensures .0) (b .submatrix2 .ensures .1) (e .submatrix .ensures .1)
           (l .linear .ensures) (g .gradient .ensures) (r .residuals-at .ensures)
           (taken-over _ _ (length-select _ _ _) (s .select .ensures)) (c .step-noise .ensures),
       record {
@@ -191,9 +191,9 @@ gather-spec =
     (λ c. search needs)  -- slice-aggregate-kept-columns
     (λ c κs. let p = known (c .before) .pre in (p .2, p .3, p .0 .columns))  -- kept-columns-requires
     (λ c. kept-fits (c .before))  -- array-share-prefix-kept
-    (λ c. sym (length-take-le _ _ (kept-fits (c .before .before))))  -- slice-aggregate-block
-    block-requires
-    block-requires-2
+    (λ c. sym (length-take-le _ _ (kept-fits (c .before .before))))  -- slice-aggregate-submatrix
+    submatrix-requires
+    submatrix-requires-2
     (λ c. search needs)  -- slice-aggregate-linear
     linear-requires
     (λ c. rows-fit (square-at (c .before)))  -- slice-reshare-prefix-gradient
@@ -217,7 +217,7 @@ gather-spec =
     step-noise-requires
     (λ c.
     let b = square-at (linear-of (c .before .before .before .before)) in
-    b .block2 .kept .1 .1 .1 .1 .1 .0 ∙ entries-at b .block .kept .1 .1 .1 .1 .1 .0)  -- room
-    (λ c. square-at (linear-of (c .before .before .before .before)) .block2 .kept .1 .1 .1 .1 .1 .1 .0)  -- q_free
-    (λ c. entries-at (square-at (linear-of (c .before .before .before .before))) .block .kept .1 .1 .1 .1 .1 .1 .0)  -- e_free
+    b .submatrix2 .kept .1 .1 .1 .1 .1 .0 ∙ entries-at b .submatrix .kept .1 .1 .1 .1 .1 .0)  -- room
+    (λ c. square-at (linear-of (c .before .before .before .before)) .submatrix2 .kept .1 .1 .1 .1 .1 .1 .0)  -- q_free
+    (λ c. entries-at (square-at (linear-of (c .before .before .before .before))) .submatrix .kept .1 .1 .1 .1 .1 .1 .0)  -- e_free
     returns)

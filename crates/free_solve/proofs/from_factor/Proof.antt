@@ -1,6 +1,6 @@
 use Rattle.folds.specs.Kit.{kit, pick}
 use Rattle.factoring.specs.Laws.{some-listed, none-listed}
-use Rattle.factored.specs.Laws.{found-is}
+use Rattle.range_space.specs.Laws.{found-is}
 use Rattle.free_solve.specs.FreeSolve.{fromFactor}
 use Rattle.free_solve.proofs.from_factor.Statement.{statement}
 use Rattle.free_solve.proofs.from_factor.Tie as tie

@@ -17,8 +17,8 @@ returns c =
       λ n below placed. rw (e .1) (record { placed = placed }),
     )
 
-blocked-requires : tie.Need-blocked-requires
-blocked-requires c κs =
+blocked-pass-requires : tie.Need-blocked-pass-requires
+blocked-pass-requires c κs =
     let r = c .before .before .before in
     let s = r .before .before .before .before .before .before in
     let a = s .args in
@@ -34,8 +34,8 @@ returns-2 : tie.Need-returns-2
 unfolding rayStep atRatio
 returns-2 c =
     let h = c .before .before in (
-      λ n m. rw (← h .before .before .ratio-test .ensures, h .hit .given .1) (c .blocked .ensures .0 n m),
-      c .blocked .ensures .1,
+      λ n m. rw (← h .before .before .ratio-test .ensures, h .hit .given .1) (c .blocked-pass .ensures .0 n m),
+      c .blocked-pass .ensures .1,
     )
 
 pub ray-step-spec : {M : Type 1} → statement M
@@ -47,5 +47,5 @@ ray-step-spec =
     (λ c. search needs)  -- enum-told
     (λ c κs. search needs)  -- ended-requires
     returns
-    blocked-requires
+    blocked-pass-requires
     returns-2)

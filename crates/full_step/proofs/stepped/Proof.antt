@@ -6,7 +6,7 @@ use Rattle.sizes.specs.Sizes as Sizes
 use Rattle.vector.specs.Laws.{length-sub}
 use Rattle.segments.specs.Segments.{AllPlaced}
 use Rattle.free_list.specs.Laws.{listed-below, listed}
-use Rattle.blocking.specs.Laws.{blocking-below}
+use Rattle.blocking.specs.Laws.{passed-below}
 use Rattle.blocking.specs.declared.Board.{Board}
 use Rattle.advance.specs.Laws.{settled-placed}
 use Rattle.full_step.specs.FullStep.{atBlocking, stepped}
@@ -14,7 +14,7 @@ use Rattle.full_step.specs.Laws.{listed-few}
 use Rattle.full_step.proofs.stepped.Statement.{statement}
 use Rattle.full_step.proofs.stepped.Tie as tie
 
-abbrev start : tie.After-blocking → tie.Start
+abbrev start : tie.After-first-passed → tie.Start
 start c = c .before .before .before .before .before .before .before .before .before .before .before .before .before .before
 
 x-holds : (c : tie.Start) → c .args .counts .n ≤ length (c .args .iterate .board .x)
@@ -32,8 +32,8 @@ step-tolerance-requires c κs =
     let p = c .before .before .before .before .before .before .before .before .before .before .before .before .pre in
     (p .6, omega (arith, slice-aggregate-step-tolerance c, p .0 .within))
 
-blocking-requires : tie.Need-blocking-requires
-blocking-requires c κs = c .before .before .before .before .before .before .before .before .before .before .before .before .before .pre .5
+first-passed-requires : tie.Need-first-passed-requires
+first-passed-requires c κs = c .before .before .before .before .before .before .before .before .before .before .before .before .before .pre .5
 
 settled-requires : tie.Need-settled-requires
 settled-requires c κs =
@@ -63,7 +63,7 @@ unfolding stepped atBlocking
 returns c =
     let t = c .before .before in
     let b = t .before .before in (
-      rw (← b .before .step-tolerance .ensures, ← b .blocking .ensures, t .enum-told .given .1, ← c .before .settled .ensures)
+      rw (← b .before .step-tolerance .ensures, ← b .first-passed .ensures, t .enum-told .given .1, ← c .before .settled .ensures)
           (c .decided .ensures .0),
       c .decided .ensures .1,
     )
@@ -76,11 +76,11 @@ sub-requires c κs =
 direction-holds : tie.Need-array-share-prefix-direction
 direction-holds c = omega (arith, few (start (c .before .before .before .before .before .before)))
 
-slice-aggregate-blocked : tie.Need-slice-aggregate-blocked
-slice-aggregate-blocked c = sym (length-take-le _ _ (direction-holds (c .before)))
+slice-aggregate-blocked-pass : tie.Need-slice-aggregate-blocked-pass
+slice-aggregate-blocked-pass c = sym (length-take-le _ _ (direction-holds (c .before)))
 
-blocked-requires : tie.Need-blocked-requires
-blocked-requires c κs =
+blocked-pass-requires : tie.Need-blocked-pass-requires
+blocked-pass-requires c κs =
     let h = c .before .before .before .before .before in
     let b = h .before .before in
     let s = start b in
@@ -90,12 +90,12 @@ blocked-requires c κs =
       listed (a .counts .n) (a .iterate .board .state) (p .4) (a .segments) (p .0 .variables) (p .1) (p .2 .placed),
       record {
         x-holds = p .5 .x-holds;
-        d-holds = omega (arith, slice-aggregate-blocked c);
+        d-holds = omega (arith, slice-aggregate-blocked-pass c);
         lower-holds = p .5 .lower-holds;
         upper-holds = p .5 .upper-holds;
       },
-      blocking-below (length (a .indices .now)) (a .x-free .now) (a .target .now) (a .lower .now) (a .upper .now) (v .0 .0) (v .0 .1 .0)
-          (v .0 .1 .1 .0) (b .before .step-tolerance .result) (sym (v .1) ∙ b .blocking .ensures),
+      passed-below (length (a .indices .now)) (a .x-free .now) (a .target .now) (a .lower .now) (a .upper .now) (v .0 .0) (v .0 .1 .0)
+          (v .0 .1 .1 .0) (b .before .step-tolerance .result) (sym (v .1) ∙ b .first-passed .ensures),
     )
 
 returns-2 : tie.Need-returns-2
@@ -109,12 +109,12 @@ returns-2 c =
     let p = s .pre in (
       rw (
         ← b .before .step-tolerance .ensures,
-        ← b .blocking .ensures,
+        ← b .first-passed .ensures,
         h .hit .given .1,
         ← taken-over _ _ (length-sub _ _ _) (d .sub .ensures),
       )
-          (c .blocked .ensures .0 (a .counts .n) (a .counts .m)),
-      c .blocked .ensures .1 (a .counts .n) (listed-below (a .counts .n) (a .iterate .board .state) (p .4)) (p .2 .placed),
+          (c .blocked-pass .ensures .0 (a .counts .n) (a .counts .m)),
+      c .blocked-pass .ensures .1 (a .counts .n) (listed-below (a .counts .n) (a .iterate .board .state) (p .4)) (p .2 .placed),
     )
 
 pub stepped-spec : {M : Type 1} → statement M
@@ -124,7 +124,7 @@ stepped-spec =
     (λ c. x-holds (c .before .before .before .before .before .before .before .before .before .before .before))  -- array-share-prefix-x
     slice-aggregate-step-tolerance
     step-tolerance-requires
-    blocking-requires
+    first-passed-requires
     (λ c. search needs)  -- enum-known-hit
     (λ c. search needs)  -- enum-told
     settled-requires
@@ -133,6 +133,6 @@ stepped-spec =
     (λ c. search needs)  -- slice-aggregate-sub
     sub-requires
     direction-holds  -- array-share-prefix-direction
-    slice-aggregate-blocked
-    blocked-requires
+    slice-aggregate-blocked-pass
+    blocked-pass-requires
     returns-2)

@@ -1,5 +1,5 @@
 use Rattle.folds.specs.Kit.{sym, _∙_}
-use Rattle.active.specs.Laws.{answerOf-answer}
+use Rattle.active.specs.Laws.{minimizedOf-minimized}
 use Rattle.multiplier.specs.Search.{cutAt}
 use Rattle.multiplier.proofs.cut_at.Statement.{statement}
 use Rattle.multiplier.proofs.cut_at.Tie as tie
@@ -14,4 +14,4 @@ cut-at-spec =
     (tie.spec
     (λ c κs. start c .pre)  -- solve-raised-requires
     (λ c κs. let p = start (c .before .before .before) .pre in (p .originals, p .at-holds))  -- cut-by-requires
-    (λ c. c .cut-by .ensures _ ∙ rw (sym (answerOf-answer _ _ _) ∙ c .before .before .before .solve-raised .ensures)))  -- returns
+    (λ c. c .cut-by .ensures _ ∙ rw (sym (minimizedOf-minimized _ _ _) ∙ c .before .before .before .solve-raised .ensures)))  -- returns

@@ -4,7 +4,7 @@ use mathlib.Core.List.{List}
 use lib.Ieee.{Float}
 use lib.Seq.{length-take-le}
 use Rattle.sizes.specs.Sizes as Sizes
-use Rattle.factor.specs.Laws.{listed-few}
+use Rattle.factor_update.specs.Laws.{listed-few}
 use Rattle.free_list.specs.Laws.{free-few, listed, taken-entries, ends-taken}
 use Rattle.pass.specs.Laws.{free-from}
 use Rattle.pass.proofs.free_pass.Statement.{statement}

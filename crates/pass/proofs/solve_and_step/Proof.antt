@@ -1,7 +1,7 @@
 use Rattle.folds.specs.Kit.{_≤_, _*_, _∙_, length, needs}
 use native.Mathlib.Nat.{le-trans}
 use Rattle.folds.specs.Cell.{area}
-use Rattle.factor.specs.Laws.{listed-few}
+use Rattle.factor_update.specs.Laws.{listed-few}
 use Rattle.pass.specs.State.{made-beside}
 use Rattle.pass.specs.Laws.{step-from}
 use Rattle.pass.proofs.solve_and_step.Statement.{statement}

@@ -1,5 +1,5 @@
 use Rattle.folds.specs.Kit.{sym, _∙_, arith, needs}
-use Rattle.active.specs.Laws.{answerOf-answer}
+use Rattle.active.specs.Laws.{minimizedOf-minimized}
 use Rattle.quadratic.specs.Laws.{shape}
 use Rattle.piecewise.specs.Laws.{wrong-shape, blank-bound, engine-answers, refused-wrongShape, refused-blankBound}
 use Rattle.piecewise.proofs.solve_piecewise.Statement.{statement}
@@ -40,7 +40,7 @@ returns-2 c =
     let t = s .before .before .before in
     rw (engine-answers _ _ _ _ _ _ _ _ _ _ _ _ _ _ _ _ _ (sym (t .before .shaped .ensures) ∙ t .if1 .taken)
     (sym (s .before .before .blank .ensures) ∙ s .before .if2 .left)
-    (sym (answerOf-answer _ _ _) ∙ s .solve-shaped .ensures))
+    (sym (minimizedOf-minimized _ _ _) ∙ s .solve-shaped .ensures))
     (c .before .before .before .before .write .ensures)
 
 returns-3 : tie.Need-returns-3

@@ -1,7 +1,7 @@
 use Rattle.folds.specs.Kit.{refl, sym, _∙_, arith, needs}
 use lib.Seq.{length-take-le}
 use Rattle.vector.specs.Laws.{copy-over}
-use Rattle.active.specs.Laws.{answer-optimal, answer-nonFinite, answer-singular, answer-unbounded, answer-notConverged}
+use Rattle.active.specs.Laws.{minimized-optimal, minimized-nonFinite, minimized-singular, minimized-unbounded, minimized-notConverged}
 use Rattle.piecewise.specs.Piecewise.{number, xOr, multipliersOr, passesOr}
 use Rattle.piecewise.specs.Laws.{refused-nonFinite, refused-singular, refused-unbounded, refused-notConverged}
 use Rattle.piecewise.proofs.write.Statement.{statement}
@@ -25,7 +25,7 @@ returns c =
     let y = c .before .before in
     let x = c .before .before .before .before .before .before .before in
     let p = c .before .before .before .before .before .before .before .before .before .before .before .before .before .before .pre in
-    rw (c .before .before .before .before .before .before .before .before .before .before .enum-told .given .1, answer-optimal)
+    rw (c .before .before .before .before .before .before .before .before .before .before .enum-told .given .1, minimized-optimal)
     (record {
       numbered = refl;
       x-written = x .copy .ensures ∙ copy-over _ _ _ (sym (slice-aggregate-copy (x .before .before))) (p .2);
@@ -51,7 +51,7 @@ write-spec =
     (λ c. search needs)  -- same-length
     (λ c. search needs)  -- same-length-2
     returns
-    (λ c. rw (c .enum-told2 .given .1, answer-nonFinite) (refused-nonFinite _ _ _))  -- returns-2
-    (λ c. rw (c .enum-told3 .given .1, answer-singular) (refused-singular _ _ _))  -- returns-3
-    (λ c. rw (c .enum-told4 .given .1, answer-unbounded) (refused-unbounded _ _ _))  -- returns-4
-    (λ c. rw (c .enum-told5 .given .1, answer-notConverged) (refused-notConverged _ _ _)))  -- returns-5
+    (λ c. rw (c .enum-told2 .given .1, minimized-nonFinite) (refused-nonFinite _ _ _))  -- returns-2
+    (λ c. rw (c .enum-told3 .given .1, minimized-singular) (refused-singular _ _ _))  -- returns-3
+    (λ c. rw (c .enum-told4 .given .1, minimized-unbounded) (refused-unbounded _ _ _))  -- returns-4
+    (λ c. rw (c .enum-told5 .given .1, minimized-notConverged) (refused-notConverged _ _ _)))  -- returns-5

@@ -1,5 +1,5 @@
 use Rattle.folds.specs.Kit.{arith, needs}
-use Rattle.factored.specs.Laws.{found-is}
+use Rattle.range_space.specs.Laws.{found-is}
 use Rattle.probe.specs.Hooks.{answered}
 use Rattle.probe.proofs.solved.Statement.{statement}
 use Rattle.probe.proofs.solved.Tie as tie

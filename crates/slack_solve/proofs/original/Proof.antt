@@ -1,6 +1,6 @@
 use Rattle.folds.specs.Kit.{_∙_, needs}
-use Rattle.active.specs.Laws.{answer-optimal, answer-nonFinite, answer-singular, answer-unbounded, answer-notConverged}
-use Rattle.active.specs.Laws.{answerOf-nonFinite, answerOf-singular, answerOf-unbounded, answerOf-notConverged}
+use Rattle.active.specs.Laws.{minimized-optimal, minimized-nonFinite, minimized-singular, minimized-unbounded, minimized-notConverged}
+use Rattle.active.specs.Laws.{minimizedOf-nonFinite, minimizedOf-singular, minimizedOf-unbounded, minimizedOf-notConverged}
 use Rattle.slack_solve.specs.SlackSolve.{original}
 use Rattle.slack_solve.proofs.original.Statement.{statement}
 use Rattle.slack_solve.proofs.original.Tie as tie
@@ -20,8 +20,8 @@ original-spec =
     (λ c κs. search needs)  -- refused-requires-3
     (λ c. search needs)  -- enum-told-5
     (λ c κs. search needs)  -- refused-requires-4
-    (λ c. rw (c .before .enum-told .given .1, answer-optimal) (c .restored .ensures))  -- returns
-    (λ c. answerOf-nonFinite _ _ _ (c .refused .ensures) ∙ rw (c .before .enum-told2 .given .1, answer-nonFinite))  -- returns-2
-    (λ c. answerOf-singular _ _ _ (c .refused2 .ensures) ∙ rw (c .before .enum-told3 .given .1, answer-singular))  -- returns-3
-    (λ c. answerOf-unbounded _ _ _ (c .refused3 .ensures) ∙ rw (c .before .enum-told4 .given .1, answer-unbounded))  -- returns-4
-    (λ c. answerOf-notConverged _ _ _ (c .refused4 .ensures) ∙ rw (c .before .enum-told5 .given .1, answer-notConverged)))  -- returns-5
+    (λ c. rw (c .before .enum-told .given .1, minimized-optimal) (c .restored .ensures))  -- returns
+    (λ c. minimizedOf-nonFinite _ _ _ (c .refused .ensures) ∙ rw (c .before .enum-told2 .given .1, minimized-nonFinite))  -- returns-2
+    (λ c. minimizedOf-singular _ _ _ (c .refused2 .ensures) ∙ rw (c .before .enum-told3 .given .1, minimized-singular))  -- returns-3
+    (λ c. minimizedOf-unbounded _ _ _ (c .refused3 .ensures) ∙ rw (c .before .enum-told4 .given .1, minimized-unbounded))  -- returns-4
+    (λ c. minimizedOf-notConverged _ _ _ (c .refused4 .ensures) ∙ rw (c .before .enum-told5 .given .1, minimized-notConverged)))  -- returns-5

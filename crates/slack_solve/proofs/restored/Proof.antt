@@ -2,7 +2,7 @@ use Rattle.folds.specs.Kit.{refl, sym, _∙_, arith, needs, pick}
 use lib.Seq.{length-take-le}
 use Rattle.folds.specs.Tab.{taken-over}
 use Rattle.vector.specs.Laws.{length-div}
-use Rattle.active.specs.Laws.{answerOf-optimal, answerOf-singular}
+use Rattle.active.specs.Laws.{minimizedOf-optimal, minimizedOf-singular}
 use Rattle.slack_solve.specs.SlackSolve.{restored}
 use Rattle.slack_solve.proofs.restored.Statement.{statement}
 use Rattle.slack_solve.proofs.restored.Tie as tie
@@ -44,7 +44,7 @@ returns : tie.Need-returns
 unfolding restored pick
 returns c =
     let f = c .before .before .before .before .before in
-    answerOf-optimal _ _ _ refl
+    minimizedOf-optimal _ _ _ refl
     ∙ rw (
       ← f .before .before .div .ensures,
       ← f .feasible .ensures,
@@ -55,7 +55,7 @@ returns c =
 returns-2 : tie.Need-returns-2
 unfolding restored pick
 returns-2 c =
-    answerOf-singular _ _ _ (c .refused .ensures)
+    minimizedOf-singular _ _ _ (c .refused .ensures)
     ∙ rw (← c .before .before .before .before .div .ensures, ← c .before .before .feasible .ensures, c .before .if1 .left)
 
 pub restored-spec : {M : Type 1} → statement M

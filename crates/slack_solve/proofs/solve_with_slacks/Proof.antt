@@ -2,7 +2,7 @@ use Rattle.folds.specs.Kit.{_+_, _≤_, sym, _∙_, arith, length}
 use lib.Seq.{length-take-le}
 use Rattle.folds.specs.Tab.{over-whole}
 use Rattle.units.specs.Laws.{length-unitsK, length-unitsE}
-use Rattle.active.specs.Laws.{answerOf-answer}
+use Rattle.active.specs.Laws.{minimizedOf-minimized}
 use Rattle.slack_solve.specs.Laws.{with-slacks-from}
 use Rattle.slack_solve.proofs.solve_with_slacks.Statement.{statement}
 use Rattle.slack_solve.proofs.solve_with_slacks.Tie as tie
@@ -85,7 +85,7 @@ returns c =
     with-slacks-from _ _ _ _ _ _ _ _ _ _ _ _ _ _ _ _ (s .before .before .scales-with-slacks .ensures) (s .column-scales .ensures)
     (over-whole _ _ (length-unitsK _ _ _) (p .2) (e .before .before .before .before .before .before .before .before .units-k .ensures))
     (over-whole _ _ (length-unitsE _ _ _ _ _) (p .3) (e .before .before .units-e .ensures))
-    (sym (answerOf-answer _ _ _) ∙ c .before .before .before .before .before .solve-scaled .ensures)
+    (sym (minimizedOf-minimized _ _ _) ∙ c .before .before .before .before .before .solve-scaled .ensures)
     (c .original .ensures)
 
 pub solve-with-slacks-spec : {M : Type 1} → statement M
