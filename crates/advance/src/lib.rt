@@ -134,8 +134,8 @@ fn move_and_block(
         × Entries (length (now indices)) (now «x_free») (now direction) (now lower) (now upper)
         × (k < length (now indices)) ⌝ }
     ensures { λ r. ⌜ r
-        ≡ Advance.moveAndBlock segments (now (indices .entry)) (now («x_free» .entry)) (now (direction .entry)) (now (lower .entry)) (now (upper .entry))
-        step k side released board ⌝ }
+        ≡ Advance.moveAndBlock segments (now (indices .entry)) (now («x_free» .entry)) (now (direction .entry)) (now (lower .entry))
+        (now (upper .entry)) step k side released board ⌝ }
 {
     let mut x = board.x;
     stepping::move_along(&mut x, indices, x_free, direction, step, lower, upper);
@@ -163,8 +163,8 @@ pub fn blocked_pass(
         × (k < length (now indices)) ⌝ }
     ensures { λ r. ⌜ Advance.Leaves r
         (Advance.blockedPass iterate
-        (Advance.moveAndBlock segments (now (indices .entry)) (now («x_free» .entry)) (now (direction .entry)) (now (lower .entry)) (now (upper .entry))
-        step k side (iterate .released) (iterate .board))) ⌝ }
+        (Advance.moveAndBlock segments (now (indices .entry)) (now («x_free» .entry)) (now (direction .entry)) (now (lower .entry))
+        (now (upper .entry)) step k side (iterate .released) (iterate .board))) ⌝ }
     ensures { λ r. ⌜ Advance.Keeps (now (indices .entry)) segments iterate r ⌝ }
 {
     let board = iterate.board;

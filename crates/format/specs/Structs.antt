@@ -1,4 +1,4 @@
--- How the code's structs hold a block: `blockOf` is document 01's block that a `Block` of the code stands for, `readOf` what an `Answer` says.
+-- How the code's structs hold a block: `blockOf` is document 01's block that a `Block` of the code stands for, `readOf` what a `Reading` says.
 use mathlib.Core.Path.{_≡_, refl, ap}
 use mathlib.Core.List.{List, [], _∷_, _++_, map}
 use Prim.Native.Nat.{ℕ, zero, suc, _+_, _≤_, _<_}

@@ -1,3 +1,2 @@
 pub mod System
 pub mod Scaled
-pub mod Laws

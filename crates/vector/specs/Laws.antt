@@ -12,7 +12,7 @@ use lib.Ieee.{Float, nan, binary64, ofBits, isNan, eq}
 use lib.Ieee.Fits.{div-fits}
 use lib.Ieee.Positive.{num, den, den-pos, through}
 use Rattle.folds.specs.Fold.{fold, over, all-at, all-yes, some-no}
-use Rattle.folds.specs.Tab.{length-tab, getD-tab, tab-same, tab-all, over-all, over-in, take-replicate}
+use Rattle.folds.specs.Tab.{length-tab, getD-tab, tab-same, tab-all, over-all, over-in, take-replicate, taken-over}
 use Rattle.arith.specs.Float.{fadd, fsub, fmul, fdiv, f0, at}
 use Rattle.arith.specs.Scalar.{abs, max, isFinite}
 use Rattle.arith.specs.Laws.{max-number}
@@ -155,6 +155,12 @@ same-over n l o p k h = over-in nan l o k (omega arith)
 
 pub same-copy : (n : ℕ) (a : List Float) → Same n (copy n a) a
 same-copy n a k h = copy-at n k h a
+
+-- what was written, less x in its place
+pub taken-less : {r s : List Float} (n : ℕ) (l o x : List Float) → length l ≡ n → r ≡ over l o → s ≡ over (sub n r x) r → take n s ≡ sub n l x
+unfolding sub
+taken-less {r} n l o x h e g =
+    taken-over n r (length-sub n r x) g ∙ tab-same n _ _ (λ i q. rw (e, same-over n l o (omega arith) i q))
 
 module _ (n : ℕ) (a b : List Float) (e : Same n a b) where
   pub copy-same : copy n a ≡ copy n b

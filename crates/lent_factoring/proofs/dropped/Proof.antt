@@ -1,4 +1,4 @@
--- `kept_factor::dropped` meets its contract: a walk of its MIR, by hand. The local is lent for a lifetime that is made for the call, and
+-- `lent_factoring::dropped` meets its contract: a walk of its MIR, by hand. The local is lent for a lifetime that is made for the call, and
 -- taken back at the last value that `reset` says.
 -- Assumes nothing.
 use mathlib.Core.Path.{refl}

@@ -1,4 +1,4 @@
--- `kept_factor::reset` meets its contract: a walk of its MIR, by hand. The record is copied out from behind the reference, passed to
+-- `lent_factoring::reset` meets its contract: a walk of its MIR, by hand. The record is copied out from behind the reference, passed to
 -- `Factoring::reset`, and what comes back is stored there.
 -- Assumes nothing.
 use mathlib.Core.Path.{refl}

@@ -1,4 +1,4 @@
--- `kept_factor::update` meets its contract: a walk of its MIR, by hand. The record is copied out from behind the reference and passed to
+-- `lent_factoring::update` meets its contract: a walk of its MIR, by hand. The record is copied out from behind the reference and passed to
 -- `Factoring::update` with the slices, each at its own lifetime, share and name; what comes back is stored there.
 -- Assumes nothing.
 use mathlib.Core.Path.{refl}

@@ -1,4 +1,4 @@
--- `kept_factor::updated` meets its contract: a walk of its MIR, by hand. The local is lent for a lifetime that is made for the call, and
+-- `lent_factoring::updated` meets its contract: a walk of its MIR, by hand. The local is lent for a lifetime that is made for the call, and
 -- taken back at the last value that `update` says; the slices are passed on, each at its own lifetime, share and name.
 -- Assumes nothing.
 use mathlib.Core.Path.{refl}

@@ -1,9 +1,8 @@
 use Rattle.folds.specs.Kit.{sym, _∙_, arith, needs}
 use lib.Seq.{length-take-le}
 use Rattle.folds.specs.Tab.{taken-over}
-use Rattle.vector.specs.Laws.{length-sub}
+use Rattle.vector.specs.Laws.{length-sub, taken-less}
 use Rattle.matrix.specs.Laws.{length-mulVec}
-use Rattle.scaled.specs.Laws.{taken-less}
 use Rattle.range_space.specs.Factored.{leftOfC}
 use Rattle.range_space.proofs.left_of_c.Statement.{statement}
 use Rattle.range_space.proofs.left_of_c.Tie as tie

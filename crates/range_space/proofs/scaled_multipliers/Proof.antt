@@ -1,10 +1,9 @@
 use Rattle.folds.specs.Kit.{sym, arith, needs}
 use lib.Seq.{length-take-le}
 use Rattle.folds.specs.Tab.{taken-over}
-use Rattle.vector.specs.Laws.{length-div}
+use Rattle.vector.specs.Laws.{length-div, taken-less}
 use Rattle.matrix.specs.Laws.{length-trMulVec}
 use Rattle.triangular.specs.Regular.{solve-taken}
-use Rattle.scaled.specs.Laws.{taken-less}
 use Rattle.range_space.proofs.scaled_multipliers.Statement.{statement}
 use Rattle.range_space.proofs.scaled_multipliers.Tie as tie
 

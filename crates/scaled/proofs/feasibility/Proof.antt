@@ -1,8 +1,8 @@
+use Rattle.vector.specs.Laws.{taken-less}
 use Rattle.folds.specs.Kit.{sym, arith, needs}
 use lib.Seq.{length-take-le}
 use Rattle.matrix.specs.Laws.{length-trMulVec}
 use Rattle.scaled.specs.Scaled.{feasibility}
-use Rattle.scaled.specs.Laws.{taken-less}
 use Rattle.scaled.proofs.feasibility.Statement.{statement}
 use Rattle.scaled.proofs.feasibility.Tie as tie
 

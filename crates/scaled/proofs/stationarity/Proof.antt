@@ -1,10 +1,9 @@
 use Rattle.folds.specs.Kit.{sym, arith, needs}
 use lib.Seq.{length-take-le}
 use Rattle.folds.specs.Tab.{taken-over}
-use Rattle.vector.specs.Laws.{length-add}
+use Rattle.vector.specs.Laws.{length-add, taken-less}
 use Rattle.matrix.specs.Laws.{length-mulVec}
 use Rattle.scaled.specs.Scaled.{stationarity}
-use Rattle.scaled.specs.Laws.{taken-less}
 use Rattle.scaled.proofs.stationarity.Statement.{statement}
 use Rattle.scaled.proofs.stationarity.Tie as tie
 
