@@ -1,5 +1,5 @@
 -- qp.rs, the start of a pass of `solve_piecewise_in_units`: the free variables, and the ends and slopes of their segments.
-use Prim.Native.Nat.{ℕ, _<_}
+use Prim.Native.Nat.{ℕ}
 use mathlib.Core.Path.{_≡_}
 use mathlib.Core.Bool.{Bool, true, false}
 use mathlib.Core.List.{List}
@@ -7,14 +7,13 @@ use lib.ListN.{getD, length}
 use lib.Ieee.{Float}
 use Rattle.folds.specs.Fold.{tab}
 use Rattle.folds.specs.Chosen.{chosen}
-use Rattle.sizes.specs.Sizes as Sizes
-use Rattle.vector.specs.Vector.{Below}
 use Rattle.segments.specs.Segments.{segmentsAt, stateAt}
 use Rattle.segments.specs.declared.Segments.{Segments}
 use Rattle.segments.specs.declared.State.{State}
 use Rattle.segments.specs.declared.State.the-variants.{At, Free}
 use Rattle.segments.specs.declared.Spot.{Spot}
-use Rattle.lent_segments.specs.Lent.{Inside, segmentIn}
+pub use Rattle.lent_segments.specs.Lent.{Listed}
+use Rattle.lent_segments.specs.Lent.{segmentIn}
 use Rattle.lent_segments.specs.declared.Segment.{Segment}
 
 -- `matches!(state[i], State::Free(_))`
@@ -25,11 +24,6 @@ isFree (Free j) = true
 -- `(0..n).filter(|&i| matches!(state[i], State::Free(_))).collect()`
 unfoldable pub freeIndices : (n : ℕ) (state : List Spot) → List ℕ
 freeIndices n state = chosen n (λ i. isFree (stateAt state i))
-
--- each listed variable is one of the engine's, and free in one of its segments
-pub record Listed (indices : List ℕ) (segments : List Segments) (state : List Spot) : Type 0 where
-  pub below : Below (length indices) indices Sizes.variables
-  pub inside : (t : ℕ) → t < length indices → Inside (segmentsAt segments (getD indices t 0)) (stateAt state (getD indices t 0))
 
 -- `free.iter().map(..)`, of the first k listed
 unfoldable pub entries : (Segment → Float) → (k : ℕ) (indices : List ℕ) (segments : List Segments) (state : List Spot) → List Float

@@ -66,11 +66,5 @@ pub fn ends_and_slopes(
         × (now (slope .exit)
         ≡ over (FreeList.slopes (length (now (indices .entry))) (now (indices .entry)) segments state) (now (slope .entry))) ⌝ }
 {
-    for t in 0..indices.len() {
-        let i = indices[t];
-        let segment = lent_segments::ends_of(segments, i, state[i]);
-        lower[t] = segment.lower;
-        upper[t] = segment.upper;
-        slope[t] = segment.slope;
-    }
+    lent_segments::ends_and_slopes_of(segments, state, indices, lower, upper, slope);
 }

@@ -1,2 +1,4 @@
 pub mod Around
 pub mod Lent
+pub mod Slices
+pub mod Spots

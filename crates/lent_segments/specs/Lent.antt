@@ -1,10 +1,16 @@
 -- qp.rs, `State::Free(j) => (&segments[i], j)`: what is read of a free variable's record.
-use Prim.Native.Nat.{ℕ, _+_}
+use Prim.Native.Nat.{ℕ, _+_, _<_}
+use mathlib.Core.List.{List}
+use lib.ListN.{length, getD, set}
+use lib.Ieee.{Float}
+use Rattle.folds.specs.Fold.{fold}
+use Rattle.sizes.specs.Sizes as Sizes
 use Rattle.arith.specs.Float.{at}
-use Rattle.segments.specs.Segments.{Cut, IsFree, Placed}
+use Rattle.segments.specs.Segments.{Cut, IsFree, Placed, segmentsAt, stateAt}
 use Rattle.segments.specs.declared.Segments.{Segments}
 use Rattle.segments.specs.declared.State.{State}
 use Rattle.segments.specs.declared.State.the-variants.{At, Free}
+use Rattle.segments.specs.declared.Spot.{Spot}
 use Rattle.lent_segments.specs.declared.Segment.{Segment}
 
 -- free in one of the record's segments
@@ -23,3 +29,22 @@ unfoldable pub segmentIn : Segments → State → Segment
 segmentIn s state =
     let j = segmentOf state in
     record { lower = at (s .points) j; upper = at (s .points) (j + 1); slope = at (s .slopes) j }
+
+-- each listed variable is one of the engine's, and free in one of its segments
+pub record Listed (indices : List ℕ) (segments : List Segments) (state : List Spot) : Type 0 where
+  pub below : (t : ℕ) → t < length indices → getD indices t 0 < Sizes.variables
+  pub inside : (t : ℕ) → t < length indices → Inside (segmentsAt segments (getD indices t 0)) (stateAt state (getD indices t 0))
+
+-- `free.iter().map(..)`, of the first k listed, over the start of a list
+unfoldable pub readOver : (Segment → Float) → (k : ℕ) (indices : List ℕ) (segments : List Segments) (state : List Spot) → List Float → List Float
+readOver read k indices segments state =
+    fold k (λ t l. let i = getD indices t 0 in set l t (read (segmentIn (segmentsAt segments i) (stateAt state i))))
+
+abbrev pub lowerOver : (k : ℕ) (indices : List ℕ) (segments : List Segments) (state : List Spot) → List Float → List Float
+lowerOver = readOver (λ s. s .lower)
+
+abbrev pub upperOver : (k : ℕ) (indices : List ℕ) (segments : List Segments) (state : List Spot) → List Float → List Float
+upperOver = readOver (λ s. s .upper)
+
+abbrev pub slopeOver : (k : ℕ) (indices : List ℕ) (segments : List Segments) (state : List Spot) → List Float → List Float
+slopeOver = readOver (λ s. s .slope)

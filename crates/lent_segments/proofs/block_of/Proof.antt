@@ -90,10 +90,11 @@ module _ {M : Type 1} (𝓤 : URA M) (H : Heap 𝓤) (A : Atoms 𝓤) (W : Given
         let law = lawful Records 𝓤 H A W (records-lawful 𝓤 H A W) in
         qed W (‵ ftrue ∷ ‵ (owns (typesAt (this.signature .params) tt) a at) ∷ []) ∵ drop ! $ drop ! $
         enter ! (𝓣 .C) (𝓣 .Λ) code.function (Mine .args mine) _ $
-        alloc1 ! (λ l₀. alloc1 ! (λ l₁. alloc1 ! (λ l₂. alloc1 ! (λ l₃. alloc1 ! (λ l₄. alloc1 ! (λ l₅. alloc1 ! (λ l₆. alloc1 ! (λ l₇. alloc1 ! (λ l₈.
-        alloc1 ! (λ l₉. alloc0 ! $ params1 ! $
+        alloc1 ! (λ l₀. alloc1 ! (λ l₁. alloc1 ! (λ l₂. alloc1 ! (λ l₃. alloc1 ! (λ l₄. alloc1 ! (λ l₅. alloc1 ! (λ l₆. alloc1 ! (λ l₇.
+        alloc1 ! (λ l₈. alloc1 ! (λ l₉. alloc0 ! $ params1 ! $
         pass1 ! (init ! 16 refl (law .0 .typed (a .0) _ (are .0) .0)) $ pass1 ! (init ! 14 refl (law .1 .0 .typed (a .1 .0) _ (are .1 .0) .0)) $
-        pass1 ! (init ! 12 refl (law .1 .1 .0 .typed (a .1 .1 .0) _ (are .1 .1 .0) .0)) $ pass1 ! (init ! 10 refl (law .1 .1 .1 .0 .typed xs _ g .0)) $
+        pass1 ! (init ! 12 refl (law .1 .1 .0 .typed (a .1 .1 .0) _ (are .1 .1 .0) .0)) $
+        pass1 ! (init ! 10 refl (law .1 .1 .1 .0 .typed xs _ g .0)) $
         pass1 ! (init ! 8 refl (law .1 .1 .1 .1 .0 .typed (a .1 .1 .1 .1 .0) _ (are .1 .1 .1 .1 .0) .0)) $
         pass1 ! (init ! 6 refl (law .1 .1 .1 .1 .1 .0 .typed (a .1 .1 .1 .1 .1 .0) _ (are .1 .1 .1 .1 .1 .0) .0)) $ pass0 ! $
         -- [_9; …; … ; _0; …]
