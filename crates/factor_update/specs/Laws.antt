@@ -4,22 +4,33 @@ use mathlib.Core.Bool.{Bool, true, false}
 use mathlib.Core.List.{List}
 use mathlib.Core.Logic.{⊎-elim}
 use Prim.Native.Nat.{ℕ, zero, suc, _<_, _≤_}
-use native.Mathlib.Nat.{lt-of-lt-of-le}
+use native.Mathlib.Nat.{lt-of-lt-of-le, le-refl, eq-or-lt-of-le, le-of-suc-le-suc}
 use native.Mathlib.Omega.{arith}
 use lib.Dec.{eqb}
 use lib.ListN.{length, set, getD, replicate, length-set, length-replicate}
-use lib.Seq.{getD-set-same, getD-set-other}
+use lib.Seq.{getD-set-same, getD-set-other, take-all}
 use lib.Ieee.{Float}
 use borrow.Author.Tests.{eq-eqb, ne-eqb}
-use Rattle.folds.specs.Fold.{fold, fold-keep, some}
+use Rattle.folds.specs.Fold.{fold, fold-keep, some, some-no}
 use Rattle.folds.specs.Tab.{tab-all, tab-same, getD-tab}
-use Rattle.folds.specs.Chosen.{chosen, length-chosen, chosen-below, chosen-same}
-use Rattle.folds.specs.Marks.{contains, marked, marks, contains-chosen}
+use Rattle.folds.specs.Chosen.{chosen, length-chosen, count-none, chosen-below, chosen-same, chosen-lead}
+use Rattle.folds.specs.Marks.{contains, marked, marks, rising, contains-chosen}
 use Rattle.vector.specs.Vector.{Below}
 use Rattle.vector.specs.Laws.{length-select}
 use Rattle.matrix.specs.Matrix.{column, index}
 use Rattle.folds.specs.Decide.{same-or-not}
 use Rattle.factor_update.specs.Factor.{Rising, columnOn}
+
+-- ---- where none passes from o on, no more are chosen below n
+count-past : (o n : ℕ) (p : ℕ → Bool) → ((i : ℕ) → o ≤ i → p i ≡ false) → o ≤ n → length (chosen n p) ≡ length (chosen o p)
+count-past o zero p h l = let z : o ≡ 0 = omega arith in rw z
+count-past o (suc n) p h l =
+    ⊎-elim (λ (e : o ≡ suc n). rw e)
+    (λ (k : o < suc n). count-none n p (h n (le-of-suc-le-suc k)) ∙ count-past o n p h (le-of-suc-le-suc k))
+    (eq-or-lt-of-le l)
+
+chosen-past : (o n : ℕ) (p : ℕ → Bool) → ((i : ℕ) → o ≤ i → p i ≡ false) → o ≤ n → chosen n p ≡ chosen o p
+chosen-past o n p h l = sym (take-all (length (chosen o p)) (chosen n p) (omega (arith, count-past o n p h l))) ∙ chosen-lead o n p l
 
 -- ---- rising lists
 module _ (o : ℕ) (list : List ℕ) (r : Rising o list) where
@@ -28,6 +39,16 @@ module _ (o : ℕ) (list : List ℕ) (r : Rising o list) where
 
   pub listed-below : (n : ℕ) → o ≤ n → Below (length list) list n
   listed-below n l i h = lt-of-lt-of-le (rw (r .is-chosen) at (chosen-below o (contains list) i (rw (r .is-chosen) h))) l
+
+  listed-not : (i : ℕ) → o ≤ i → contains list i ≡ false
+  unfolding contains
+  listed-not i h =
+      some-no (length list) (λ t. eqb (index list t) i)
+      (λ t l. ne-eqb (index list t) i (λ z. omega (arith, listed-below o (le-refl o) t l)))
+
+  -- below any n from o up
+  pub rising-wider : (n : ℕ) → o ≤ n → Rising n list
+  rising-wider n l = record { is-chosen = chosen-past o n (contains list) listed-not l ∙ r .is-chosen }
 
 pub rising-chosen : (o : ℕ) (p : ℕ → Bool) → Rising o (chosen o p)
 rising-chosen o p = record { is-chosen = chosen-same o (contains (chosen o p)) p (contains-chosen o p) }
@@ -40,6 +61,11 @@ length-columnOn q n held i = length-select (length held) (column n q i) held
 pub marked-marks : (n : ℕ) (list : List ℕ) (i : ℕ) → i < n → marked (marks n list) i ≡ contains list i
 unfolding marks
 marked-marks n list i h = getD-tab false n i (contains list) h
+
+-- as marks, and as a list again
+pub marks-rising : (n : ℕ) (list : List ℕ) → Rising n list → rising n (marks n list) ≡ list
+unfolding rising
+marks-rising n list r = chosen-same n (λ i. marked (marks n list) i) (contains list) (marked-marks n list) ∙ r .is-chosen
 
 none : (n i : ℕ) → getD (replicate n false) i false ≡ false
 none zero i = refl

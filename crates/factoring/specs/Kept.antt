@@ -5,18 +5,16 @@ use mathlib.Core.Path.{_≡_}
 use mathlib.Core.Bool.{Bool, true, false}
 use mathlib.Core.List.{List}
 use mathlib.Core.Option.{Option, none, some}
-use lib.ListN.{length, take}
+use lib.ListN.{length}
 use lib.Ieee.{Float}
 use Rattle.folds.specs.Fold.{all, over, pick, Out, out}
-use Rattle.folds.specs.Marks.{contains}
+use Rattle.folds.specs.Marks.{contains, rising}
 use Rattle.sizes.specs.Sizes as Sizes
-use Rattle.vector.specs.Vector.{Below}
 use Rattle.matrix.specs.Matrix.{selectRows, selectColumns, index}
 use Rattle.triangular.specs.Triangular.{cholesky, positiveDefinite}
 use Rattle.triangular.specs.Pivots.{Sounds}
 use Rattle.factor_update.specs.Factor.{Rising, updated}
 use Rattle.factor_update.specs.Room.{Block}
-use Rattle.factoring.specs.declared.Listed.{Listed}
 use Rattle.factoring.specs.declared.Factoring.{Factoring}
 
 -- the variables of the factor's block, and those of the last singular one
@@ -91,41 +89,24 @@ settled q n indices f (out false l) = afresh q n indices f l
 unfoldable pub update : (q : List Float) (n : ℕ) (indices : List ℕ) → Kept → (l : List Float) → Factor
 update q n indices f l = settled q n indices f (lastUpdated q n indices (f .held) l)
 
--- ---- what the code's record stands for: the first `count` of each array, where it is marked
-abbrev pub listOf : Listed → List ℕ
-listOf s = take (s .count) (s .list)
+-- ---- what the code's record stands for: the marked variables, where the mark beside them says that there are such
+abbrev pub listOf : List Bool → List ℕ
+listOf s = rising Sizes.originals s
 
-unfoldable pub optionOf : (marked : Bool) → Listed → Option (List ℕ)
+unfoldable pub optionOf : (there : Bool) → List Bool → Option (List ℕ)
 optionOf false s = none
 optionOf true s = some (listOf s)
 
 unfoldable pub keptOf : Factoring → Kept
 keptOf f = record { held = optionOf (f .factored) (f .held); singular = optionOf (f .failed) (f .singular) }
 
--- ---- what a test against the singular list asks, and an update of the factor: the array holds what is counted of it, and where it is marked its
--- variables are below the engine's count of originals, or rising and below o
-pub record Bounded (marked : Bool) (s : Listed) : Type 0 where
-  pub fits : s .count ≤ Sizes.originals
-  pub below : marked ≡ true → Below (length (listOf s)) (listOf s) Sizes.originals
-
-pub record Fitting (o : ℕ) (marked : Bool) (s : Listed) : Type 0 where
-  pub fits : s .count ≤ Sizes.originals
-  pub rises : marked ≡ true → Rising o (listOf s)
-
--- ---- what every call keeps: the arrays hold what is counted of them, the lists are rising and below o, and the pivots of a factor pass the floor
--- or are NaN
-pub record Fits (f : Factoring) : Type 0 where
-  pub held : f .held .count ≤ Sizes.originals
-  pub singular : f .singular .count ≤ Sizes.originals
-
+-- ---- what every call keeps: the variables of a factor are below o, and its pivots pass the floor or are NaN
 pub record Sound (o : ℕ) (f : Kept) (l : List Float) : Type 0 where
-  pub held : (s : List ℕ) → f .held ≡ some s → Rising o s
-  pub singular : (s : List ℕ) → f .singular ≡ some s → Rising o s
+  pub rises : (s : List ℕ) → f .held ≡ some s → Rising o s
   pub pivots : (s : List ℕ) → f .held ≡ some s → Sounds (length s) l
 
-pub record Good (o : ℕ) (f : Factoring) (l : List Float) : Type 0 where
-  pub fits : Fits f
-  pub sound : Sound o (keptOf f) l
+abbrev pub Good : (o : ℕ) → Factoring → (l : List Float) → Type 0
+Good o f l = Sound o (keptOf f) l
 
 -- ---- what `update` asks: Q and the list, the kept factor, and room for it and for the block's rows of Q
 pub record Updatable (n o : ℕ) (q : List Float) (indices : List ℕ) (f : Factoring) (l room : List Float) : Type 0 where

@@ -1,6 +1,7 @@
 // qp.rs, `Factoring`, by value: the factor of Q's block on the free variables, kept from one iteration to the next.
 // Q is n by n; only its first `originals` variables are listed, in rising order. The factor itself is lent, as l, and stands over its start.
 ghost use mathlib.Core.Path.{_≡_};
+ghost use mathlib.Core.Bool.{true};
 ghost use Prim.Native.Nat.{_≤_, _*_};
 ghost use lib.ListN.{length};
 ghost use Rattle.folds.specs.Fold.{out};
@@ -11,33 +12,14 @@ ghost use Rattle.factor_update.specs.Room.{Block, Room};
 ghost use Rattle.factoring.specs.Kept.{factor, keptOf};
 ghost use Rattle.factoring.specs.Kept as Kept;
 
-// A list of variables: the first `count` of the array.
-pub struct Listed {
-    pub list: [usize; sizes::ORIGINALS],
-    pub count: usize,
-}
-
+// A set of variables is a mark for each.
 pub struct Factoring {
     // Whether there is a factor, and the variables of its block.
     pub factored: bool,
-    pub held: Listed,
+    pub held: [bool; sizes::ORIGINALS],
     // Whether a block was singular, or nearly so, and the variables of the last.
     pub failed: bool,
-    pub singular: Listed,
-}
-
-fn to_vec(indices: &[usize]) -> Listed
-    requires { ⌜ length (now indices) ≤ Sizes.originals ⌝ }
-    ensures { λ r. ⌜ (Kept.listOf r ≡ now (indices .entry)) × (r .count ≤ Sizes.originals) ⌝ }
-{
-    let mut list = [0; sizes::ORIGINALS];
-    for i in 0..indices.len() {
-        list[i] = indices[i];
-    }
-    Listed {
-        list: list,
-        count: indices.len(),
-    }
+    pub singular: [bool; sizes::ORIGINALS],
 }
 
 // s.iter().all(|i| indices.binary_search(i).is_ok())
@@ -56,13 +38,13 @@ fn contains_all(indices: &[usize], s: &[usize]) -> bool
 }
 
 // Whether the block on `indices` contains the last singular one.
-fn contains_singular(failed: bool, singular: Listed, indices: &[usize]) -> bool
-    requires { ⌜ Below (length (now indices)) (now indices) Sizes.originals × Kept.Bounded failed singular ⌝ }
+fn contains_singular(failed: bool, singular: [bool; sizes::ORIGINALS], indices: &[usize]) -> bool
+    requires { ⌜ Below (length (now indices)) (now indices) Sizes.originals ⌝ }
     ensures { λ r. ⌜ r ≡ Kept.containsSingular (now (indices .entry)) (Kept.optionOf failed singular) ⌝ }
 {
     if failed {
-        let list = singular.list;
-        let k = singular.count;
+        let mut list = [0; sizes::ORIGINALS];
+        let k = factor_update::rising(singular, sizes::ORIGINALS, &mut list);
         return contains_all(indices, &list[..k]);
     }
     false
@@ -97,7 +79,7 @@ pub fn fresh(q: &[f64], n: usize, indices: &[usize], l: &mut [f64], room: &mut [
 // Whether there is a last factor l, of the block on `held`, that could be updated.
 fn last_updated(
     factored: bool,
-    held: Listed,
+    held: [bool; sizes::ORIGINALS],
     q: &[f64],
     n: usize,
     originals: usize,
@@ -107,14 +89,14 @@ fn last_updated(
 ) -> bool
     requires { ⌜ Block n originals (now q)
         × Room originals (now l) (now room)
-        × Kept.Fitting originals factored held
+        × (factored ≡ true → Rising originals (Kept.listOf held))
         × Rising originals (now indices) ⌝ }
     ensures { λ r. ⌜ out r (now (l .exit))
         ≡ Kept.lastUpdated (now (q .entry)) n (now (indices .entry)) (Kept.optionOf factored held) (now (l .entry)) ⌝ }
 {
     if factored {
-        let list = held.list;
-        let k = held.count;
+        let mut list = [0; sizes::ORIGINALS];
+        let k = factor_update::rising(held, sizes::ORIGINALS, &mut list);
         return factor_update::updated(q, n, originals, &list[..k], indices, l, room);
     }
     false
@@ -123,24 +105,18 @@ fn last_updated(
 impl Factoring {
     pub fn new() -> Self
         ensures { λ r. ⌜ keptOf r ≡ Kept.new ⌝ }
-        ensures { λ r. ⌜ Kept.Fits r ⌝ }
     {
-        let none = Listed {
-            list: [0; sizes::ORIGINALS],
-            count: 0,
-        };
         Factoring {
             factored: false,
-            held: none,
+            held: [false; sizes::ORIGINALS],
             failed: false,
-            singular: none,
+            singular: [false; sizes::ORIGINALS],
         }
     }
 
     // Drops the factor.
     pub fn reset(self) -> Self
         ensures { λ r. ⌜ keptOf r ≡ Kept.reset (keptOf self) ⌝ }
-        ensures { λ r. ⌜ (Kept.Fits self → Kept.Fits r) ⌝ }
     {
         let mut f = self;
         f.factored = false;
@@ -148,40 +124,37 @@ impl Factoring {
     }
 
     fn with_factor(self, indices: &[usize]) -> Self
-        requires { ⌜ length (now indices) ≤ Sizes.originals ⌝ }
+        requires { ⌜ Rising Sizes.originals (now indices) ⌝ }
         ensures { λ r. ⌜ keptOf r ≡ Kept.withFactor (now (indices .entry)) (keptOf self) ⌝ }
-        ensures { λ r. ⌜ (Kept.Fits self → Kept.Fits r) ⌝ }
     {
+        let held = factor_update::marks(indices);
         let mut f = self;
         f.factored = true;
-        f.held = to_vec(indices);
+        f.held = held;
         f
     }
 
     fn with_singular(self, indices: &[usize]) -> Self
-        requires { ⌜ length (now indices) ≤ Sizes.originals ⌝ }
+        requires { ⌜ Rising Sizes.originals (now indices) ⌝ }
         ensures { λ r. ⌜ keptOf r ≡ Kept.withSingular (now (indices .entry)) (keptOf self) ⌝ }
-        ensures { λ r. ⌜ (Kept.Fits self → Kept.Fits r) ⌝ }
     {
+        let singular = factor_update::marks(indices);
         let mut f = self;
         f.factored = false;
         f.failed = true;
-        f.singular = to_vec(indices);
+        f.singular = singular;
         f
     }
 
     // The factor of the block computed afresh, unless the block contains the last singular one.
     fn afresh(self, q: &[f64], n: usize, indices: &[usize], l: &mut [f64], room: &mut [f64]) -> Self
         requires { ⌜ (n * n ≤ length (now q))
-            × (length (now indices) ≤ Sizes.originals)
-            × Below (length (now indices)) (now indices) Sizes.originals
+            × Rising Sizes.originals (now indices)
             × Below (length (now indices)) (now indices) n
-            × Kept.Bounded (self .failed) (self .singular)
             × (length (now indices) * length (now indices) ≤ length (now l))
             × (length (now indices) * n ≤ length (now room)) ⌝ }
         ensures { λ r. ⌜ factor (keptOf r) (now (l .exit))
             ≡ Kept.afresh (now (q .entry)) n (now (indices .entry)) (keptOf self) (now (l .entry)) ⌝ }
-        ensures { λ r. ⌜ (Kept.Fits self → Kept.Fits r) ⌝ }
     {
         let singular = self.singular;
         if contains_singular(self.failed, singular, indices) {

@@ -1,11 +1,12 @@
 // qp.rs, a pass of `solve_piecewise_in_units`: the step on the free variables, from the factor kept across iterations where Q is positive definite
 // on them, and otherwise, or if that misses, from the eigendecomposition. K is n by n, E is n by m.
 ghost use mathlib.Core.Path.{_≡_};
+ghost use mathlib.Core.Bool.{Bool};
+ghost use mathlib.Core.List.{List};
 ghost use Prim.Native.Nat.{ℕ, _≤_, _*_};
 ghost use lib.ListN.{length};
 ghost use Rattle.scaled.specs.System.{Sized, system};
 ghost use Rattle.factoring.specs.Kept.{factor, optionOf, keptOf, Good, Updatable};
-ghost use Rattle.factoring.specs.declared.Listed.{Listed};
 ghost use Rattle.range_space.specs.Factored.{foundOf};
 ghost use Rattle.free_problem.specs.FreeProblem.{gatheredOf, Lists};
 ghost use Rattle.free_solve.specs.Regular.{Regular};
@@ -41,7 +42,7 @@ fn from_factor(
         × Regular n factored (now l)
         × (n * m ≤ length (now w))
         × (m * m ≤ length (now gram)) ⌝ }
-    ensures { λ r. ⌜ ((held : Listed) → foundOf n m r
+    ensures { λ r. ⌜ ((held : List Bool) → foundOf n m r
         ≡ Definition.fromFactor (optionOf factored held) (now (l .entry))
         (system n m (now (k .entry)) (now (c .entry)) (now (e .entry)) (now (b .entry))) noise) ⌝ }
 {

@@ -7,7 +7,6 @@ use factoring::Factoring;
 // Drops the factor.
 pub fn reset(f: &mut Factoring)
     ensures { λ _. ⌜ keptOf (now (f .exit)) ≡ Kept.reset (keptOf (now (f .entry))) ⌝ }
-    ensures { λ _. ⌜ (Kept.Fits (now (f .entry)) → Kept.Fits (now (f .exit))) ⌝ }
 {
     *f = (*f).reset();
 }
@@ -32,7 +31,6 @@ pub fn update(
 // The same for a caller that holds the record by value: these contracts name no reference to it.
 pub fn dropped(f: Factoring) -> Factoring
     ensures { λ r. ⌜ keptOf r ≡ Kept.reset (keptOf f) ⌝ }
-    ensures { λ r. ⌜ (Kept.Fits f → Kept.Fits r) ⌝ }
 {
     let mut kept = f;
     reset(&mut kept);

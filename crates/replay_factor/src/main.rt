@@ -8,7 +8,6 @@ ghost use Rattle.scaled.specs.System.{Sized};
 ghost use Rattle.factor_update.specs.Room.{Block};
 ghost use Rattle.factoring.specs.Kept as Kept;
 use factoring::Factoring;
-use factoring::Listed;
 
 const ORIGINALS: usize = sizes::ORIGINALS;
 
@@ -23,28 +22,21 @@ fn marks(bits: usize) -> [bool; ORIGINALS] {
     set
 }
 
-fn lists_differ(a: &[usize], b: &[usize]) -> bool {
-    if a.len() != b.len() {
-        return true;
-    }
-    for i in 0..a.len() {
-        if a[i] != b[i] {
+// Whether a set is not that of these bits.
+fn set_differs(kept: [bool; ORIGINALS], bits: usize) -> bool {
+    let set = marks(bits);
+    for i in 0..ORIGINALS {
+        if kept[i] != set[i] {
             return true;
         }
     }
     false
 }
 
-// Whether a list is not the set of these bits.
-fn set_differs(kept: Listed, bits: usize) -> bool {
-    let mut set = [0; ORIGINALS];
-    let k = factor_update::rising(marks(bits), ORIGINALS, &mut set);
-    let list = kept.list;
-    let n = kept.count;
-    if n > ORIGINALS {
-        return true;
-    }
-    lists_differ(&list[..n], &set[..k])
+// How many are in a set.
+fn size(set: [bool; ORIGINALS]) -> usize {
+    let mut list = [0; ORIGINALS];
+    factor_update::rising(set, ORIGINALS, &mut list)
 }
 
 // Whether the last singular set is not that of these bits, which are 0 where there is none.
@@ -75,7 +67,7 @@ fn factor_differing(f: Factoring, l: &[f64], bits: usize, c: &[f64]) -> usize {
     if set_differs(held, bits) {
         return 1;
     }
-    replay::lower_differing(l, held.count, c)
+    replay::lower_differing(l, size(held), c)
 }
 
 // After an update to the set of these bits; what it should have given begins at a place.
@@ -132,7 +124,6 @@ fn update(s: &[u8], q: &[f64], n: usize, originals: usize, l: &mut [f64], w: Seq
 
 fn reset(s: &[u8], w: Sequence) -> Sequence
     ensures { λ r. ⌜ Kept.keptOf (r .kept) ≡ Kept.reset (Kept.keptOf (w .kept)) ⌝ }
-    ensures { λ r. ⌜ (Kept.Fits (w .kept) → Kept.Fits (r .kept)) ⌝ }
 {
     let mut then = w;
     let kept = w.kept;

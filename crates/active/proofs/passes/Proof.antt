@@ -92,13 +92,12 @@ passes-spec =
     (λ c κs. search kit)  -- new-requires
     (λ c. search kit)  -- mul-made-end
     (λ c. search kit)  -- add-made-end
-    (λ c.
-    let e = c .new .ensures in (
+    (λ c. (
       omega arith,
       record { of-room = refl; of-q = refl; of-e = refl; of-gram = refl; of-l = refl },
       search kit,
-      good-new _ _ _ (e .0) (e .1),
-      all-left _ _ _ _ _ _ _ _ _ _ _ _ _ (e .0),
+      good-new _ _ _ (c .new .ensures),
+      all-left _ _ _ _ _ _ _ _ _ _ _ _ _ (c .new .ensures),
     ))  -- loop-holds
     pass-requires
     (λ c κs. search kit)  -- goes-on-requires

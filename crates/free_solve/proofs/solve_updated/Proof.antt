@@ -11,8 +11,8 @@ returns-2 : tie.Need-returns-2
 returns-2 c =
     let t = c .before .before in
     let d = c .dropped .ensures in (
-      after-missed _ _ _ _ _ _ _ (asked (t .before) .from-factor .ensures _) _ _ (t .if1 .left) (c .before .solve-noisy-kkt .ensures) (d .0),
-      λ o g. good-reset o _ _ _ (d .0) (d .1) g,
+      after-missed _ _ _ _ _ _ _ (asked (t .before) .from-factor .ensures _) _ _ (t .if1 .left) (c .before .solve-noisy-kkt .ensures) d,
+      λ o g. good-reset o _ _ _ d,
     )
 
 pub solve-updated-spec : {M : Type 1} → statement M

@@ -21,7 +21,7 @@ run-steps-spec =
     Inv-loop
     μ-loop
     (λ c κs. search needs)  -- new-requires
-    (λ c. (omega arith, refl, good-new _ _ _ (c .new .ensures .0) (c .new .ensures .1)))  -- loop-holds
+    (λ c. (omega arith, refl, good-new _ _ _ (c .new .ensures)))  -- loop-holds
     (λ c κs.
     let p = c .before .before .before .before .before .before .before .pre in
     let i = c .before .before .loop .inv in

@@ -12,5 +12,4 @@ step-spec =
     (λ c. search needs)  -- same-length
     (λ c. search needs)  -- returns
     (λ c κs. search needs)  -- reset-requires
-    (λ c. let e = c .reset .ensures in
-    good-reset _ _ _ _ (e .0) (e .1) (c .before .before .before .before .before .before .pre .2)))  -- returns-2
+    (λ c. good-reset _ _ _ _ (c .reset .ensures)))  -- returns-2

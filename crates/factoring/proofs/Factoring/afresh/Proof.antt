@@ -1,4 +1,6 @@
 use Rattle.folds.specs.Kit.{pick, kit}
+use native.Mathlib.Nat.{le-refl}
+use Rattle.factor_update.specs.Laws.{listed-below}
 use Rattle.factoring.specs.Kept.{afresh, kept, keptOf}
 use Rattle.factoring.proofs.Factoring.afresh.Statement.{statement}
 use Rattle.factoring.proofs.Factoring.afresh.Tie as tie
@@ -8,37 +10,30 @@ unfolding afresh pick kept keptOf
 afresh-spec =
     tie.close
     (tie.spec
-    (λ c κs. let p = c .before .before .before .before .before .pre in (p .2, p .4))  -- contains-singular-requires
+    (λ c κs. let p = c .before .before .before .before .before .pre in listed-below _ _ (p .1) _ (le-refl _))  -- contains-singular-requires
     (λ c κs. search kit)  -- reset-requires
-    (λ c. let e = c .reset .ensures in
-    (rw (← c .before .before .contains-singular .ensures, c .before .if1 .taken, e .0), e .1))  -- returns
+    (λ c. rw (← c .before .before .contains-singular .ensures, c .before .if1 .taken, c .reset .ensures))  -- returns
     (λ c κs. let p = c .before .before .before .before .before .before .before .before .before .pre in
-    (p .0, p .3, p .5, p .6))  -- fresh-requires
+    (p .0, p .2, p .3, p .4))  -- fresh-requires
     (λ c κs. let s = c .before .before .before .before .before .before .before .before .before .before .before .before .before .before .before in
     s .pre .1)  -- with-factor-requires
     (λ c. search kit)  -- same-length
     (λ c. search kit)  -- same-length-2
-    (λ c. let e = c .with-factor .ensures in (
-      rw (
-        ← c .before .before .before .before .before .before .before .before .before .before .contains-singular .ensures,
-        c .before .before .before .before .before .before .before .before .before .if1 .left,
-        ← c .before .before .before .before .before .before .fresh .ensures,
-        c .before .if2 .taken,
-        e .0,
-      ),
-      e .1,
+    (λ c. rw (
+      ← c .before .before .before .before .before .before .before .before .before .before .contains-singular .ensures,
+      c .before .before .before .before .before .before .before .before .before .if1 .left,
+      ← c .before .before .before .before .before .before .fresh .ensures,
+      c .before .if2 .taken,
+      c .with-factor .ensures,
     ))  -- returns-2
     (λ c κs. let s = c .before .before .before .before .before .before .before .before .before .before .before .before .before .before .before in
     s .pre .1)  -- with-singular-requires
     (λ c. search kit)  -- same-length-3
     (λ c. search kit)  -- same-length-4
-    (λ c. let e = c .with-singular .ensures in (
-      rw (
-        ← c .before .before .before .before .before .before .before .before .before .before .contains-singular .ensures,
-        c .before .before .before .before .before .before .before .before .before .if1 .left,
-        ← c .before .before .before .before .before .before .fresh .ensures,
-        c .before .if2 .left,
-        e .0,
-      ),
-      e .1,
+    (λ c. rw (
+      ← c .before .before .before .before .before .before .before .before .before .before .contains-singular .ensures,
+      c .before .before .before .before .before .before .before .before .before .if1 .left,
+      ← c .before .before .before .before .before .before .fresh .ensures,
+      c .before .if2 .left,
+      c .with-singular .ensures,
     )))  -- returns-3

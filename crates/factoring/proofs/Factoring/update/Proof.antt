@@ -1,9 +1,9 @@
 use Rattle.folds.specs.Kit.{_≡_, _≤_, arith, length, kit}
 use Rattle.folds.specs.Cell.{area}
 use native.Mathlib.Nat.{le-refl}
-use Rattle.factor_update.specs.Laws.{listed-few, listed-below}
+use Rattle.factor_update.specs.Laws.{listed-few, listed-below, rising-wider}
 use Rattle.factoring.specs.Kept.{Factor, factor, update, settled, keptOf}
-use Rattle.factoring.specs.Laws.{held-fitting, singular-bounded, update-good}
+use Rattle.factoring.specs.Laws.{good-rises, update-good}
 use Rattle.factoring.proofs.Factoring.update.Statement.{statement}
 use Rattle.factoring.proofs.Factoring.update.Tie as tie
 
@@ -20,7 +20,7 @@ last-updated-requires c κs =
         l-holds = p .l-holds;
         room-holds = omega (arith, area (le-refl (s .args .originals)) (p .block .within), p .room-holds);
       },
-      held-fitting _ _ (p .good),
+      good-rises _ _ (p .good),
       p .rises,
     )
 
@@ -29,10 +29,8 @@ afresh-requires c κs =
     let s = c .before .before .before .before .before .before .before .before .before .before .before .before .before .before .before in
     let p = s .pre in (
       p .block .q-holds,
-      omega (arith, listed s, p .block .few),
-      listed-below _ _ (p .rises) _ (p .block .few),
+      rising-wider _ _ (p .rises) _ (p .block .few),
       listed-below _ _ (p .rises) _ (p .block .within),
-      singular-bounded _ _ (p .good) (p .block .few),
       omega (arith, area (listed s) (listed s), p .l-holds),
       omega (arith, area (listed s) (le-refl (s .args .n)), p .room-holds),
     )
@@ -49,9 +47,9 @@ returns c =
     let e : factor (keptOf (c .with-factor .result)) (u .last-updated .last .1 .1 .1 .1 .1 .1 .0) ≡ updated s = rw (
       ← u .last-updated .ensures,
       c .before .if1 .taken,
-      h .0,
+      h,
     ) in
-    (e, update-good _ (s .pre .block .few) _ _ _ (s .pre .rises) _ _ (s .pre .good) _ e (h .1 (s .pre .good .fits)))
+    (e, update-good _ (s .pre .block .few) _ _ _ (s .pre .rises) _ _ (s .pre .good) _ e)
 
 returns-2 : tie.Need-returns-2
 unfolding update settled keptOf
@@ -61,8 +59,8 @@ returns-2 c =
     let s = u .before .before .before .before .before .before .before .before in
     let h = a .afresh .ensures in
     let e : factor (keptOf (a .afresh .result)) (a .afresh .last .1 .1 .1 .1 .0) ≡ updated s =
-    rw (← u .last-updated .ensures, c .before .before .before .before .before .before .before .if1 .left) (h .0) in
-    (e, update-good _ (s .pre .block .few) _ _ _ (s .pre .rises) _ _ (s .pre .good) _ e (h .1 (s .pre .good .fits)))
+    rw (← u .last-updated .ensures, c .before .before .before .before .before .before .before .if1 .left) h in
+    (e, update-good _ (s .pre .block .few) _ _ _ (s .pre .rises) _ _ (s .pre .good) _ e)
 
 pub update-spec : {M : Type 1} → statement M
 update-spec =
@@ -70,7 +68,7 @@ update-spec =
     (tie.spec
     last-updated-requires  -- last-updated-requires
     (λ c κs. let s = c .before .before .before .before .before .before .before .before .before .before .before .before .before in
-    omega (arith, listed s, s .pre .block .few))  -- with-factor-requires
+    rising-wider _ _ (s .pre .rises) _ (s .pre .block .few))  -- with-factor-requires
     (λ c. search kit)  -- same-length
     (λ c. search kit)  -- same-length-2
     returns  -- returns

@@ -1,4 +1,5 @@
-use Rattle.folds.specs.Kit.{kit}
+use native.Mathlib.Nat.{le-refl}
+use Rattle.factor_update.specs.Laws.{listed-below, marks-rising}
 use Rattle.factoring.specs.Kept.{withFactor, optionOf, keptOf}
 use Rattle.factoring.proofs.Factoring.with_factor.Statement.{statement}
 use Rattle.factoring.proofs.Factoring.with_factor.Tie as tie
@@ -8,5 +9,5 @@ unfolding withFactor optionOf keptOf
 with-factor-spec =
     tie.close
     (tie.spec
-    (λ c κs. search kit)  -- to-vec-requires
-    (λ c. (rw (c .to-vec .ensures .0), λ h. record { held = c .to-vec .ensures .1; singular = h .singular })))  -- returns
+    (λ c κs. listed-below _ _ (c .before .pre) _ (le-refl _))  -- marks-requires
+    (λ c. rw (c .marks .ensures, marks-rising _ _ (c .before .before .pre))))  -- returns

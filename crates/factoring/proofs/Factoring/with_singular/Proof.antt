@@ -1,4 +1,5 @@
-use Rattle.folds.specs.Kit.{kit}
+use native.Mathlib.Nat.{le-refl}
+use Rattle.factor_update.specs.Laws.{listed-below, marks-rising}
 use Rattle.factoring.specs.Kept.{withSingular, optionOf, keptOf}
 use Rattle.factoring.proofs.Factoring.with_singular.Statement.{statement}
 use Rattle.factoring.proofs.Factoring.with_singular.Tie as tie
@@ -8,5 +9,5 @@ unfolding withSingular optionOf keptOf
 with-singular-spec =
     tie.close
     (tie.spec
-    (λ c κs. search kit)  -- to-vec-requires
-    (λ c. (rw (c .to-vec .ensures .0), λ h. record { held = h .held; singular = c .to-vec .ensures .1 })))  -- returns
+    (λ c κs. listed-below _ _ (c .before .pre) _ (le-refl _))  -- marks-requires
+    (λ c. rw (c .marks .ensures, marks-rising _ _ (c .before .before .pre))))  -- returns
