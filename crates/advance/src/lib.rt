@@ -139,8 +139,13 @@ fn move_and_block(
 {
     let mut x = board.x;
     stepping::move_along(&mut x, indices, x_free, direction, step, lower, upper);
-    let mut moved = board;
-    moved.x = x;
+    let state = board.state;
+    let refused = board.refused;
+    let moved = Board {
+        x: x,
+        state: state,
+        refused: refused,
+    };
     let i = indices[k];
     lent_segments::block_of(moved, i, side, segments, step, released)
 }
@@ -203,13 +208,20 @@ pub fn settled(
 {
     let mut x = board.x;
     let moved = stepping::settle(&mut x, indices, target, lower, upper, tolerance);
-    let mut next = board;
-    next.x = x;
+    let state = board.state;
+    let refused = board.refused;
     if moved {
-        next.refused = [false; sizes::VARIABLES];
-        return next;
+        return Board {
+            x: x,
+            state: state,
+            refused: [false; sizes::VARIABLES],
+        };
     }
-    next
+    Board {
+        x: x,
+        state: state,
+        refused: refused,
+    }
 }
 
 // gradient = q * &x - c

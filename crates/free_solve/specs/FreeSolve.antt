@@ -21,9 +21,9 @@ pub record FreeSolution : Type 0 where
   pub factoring : Kept
   pub factor : List Float
 
--- of what the code leaves, with k variables and m columns, and the factor as l
-unfoldable pub solutionOf : (k m : ℕ) → Solved → (l : List Float) → FreeSolution
-solutionOf k m r l = record { answer = Solution.solutionOf k m (r .solution); factoring = keptOf (r .factoring); factor = l }
+-- of what the code leaves, with the step as x, its multipliers, and the factor as l
+unfoldable pub solutionOf : Solved → (x multipliers : List Float) → (l : List Float) → FreeSolution
+solutionOf r x multipliers l = record { answer = Solution.answer (r .verdict) x multipliers; factoring = keptOf (r .factoring); factor = l }
 
 -- `.and_then(|cholesky| solve_factored(cholesky, problem, noise))`
 unfoldable pub fromFactor : (held : Option (List ℕ)) (l : List Float) → System → (noise : Float) → FactoredSolution

@@ -1,6 +1,6 @@
 -- Laws of the definitions: what the calls of a solve give, put together, and what a result holds.
-use mathlib.Core.Path.{_≡_, refl, sym, ap, _∙_}
-use mathlib.Core.Bool.{true, false}
+use mathlib.Core.Path.{_≡_, sym, ap, _∙_}
+use mathlib.Core.Bool.{Bool, true, false}
 use mathlib.Core.List.{List}
 use Prim.Native.Nat.{ℕ, _*_, _≤_}
 use lib.ListN.{length, take}
@@ -13,13 +13,12 @@ use Rattle.factoring.specs.declared.Factoring.{Factoring}
 use Rattle.factoring.specs.Kept.{Kept, Factor, factor, reset, update, optionOf, keptOf, Good}
 use Rattle.factoring.specs.Laws.{held-is, update-regular}
 use Rattle.scaled.specs.System.{System, system}
-use Rattle.range_space.specs.declared.Found.{Found}
 use Rattle.range_space.specs.Factored.{foundOf}
 use Rattle.range_space.specs.Laws.{found-is}
-use Rattle.solution.specs.declared.Solution as Noisy
+use Rattle.solution.specs.declared.KktVerdict.{KktVerdict}
 use Rattle.solution.specs.declared.KktVerdict.the-variants.{Solved}
-use Rattle.solution.specs.Solution as Kkt
-use Rattle.solution.specs.Laws.{solution-solved}
+use Rattle.solution.specs.Solution.{answer}
+use Rattle.solution.specs.Laws.{answer-solved}
 use Rattle.noisy_kkt.specs.NoisyKkt.{solveNoisyKkt}
 use Rattle.free_problem.specs.declared.Free.{Free}
 use Rattle.free_problem.specs.FreeProblem.{Gathered, gatheredOf}
@@ -29,8 +28,8 @@ use Rattle.free_solve.specs.FreeSolve.{FreeSolution, solutionOf, fromFac
 use Rattle.free_solve.specs.Regular.{Regular}
 
 -- ---- what a result holds
-module _ (k m : ℕ) (r : Result.Solved) (l : List Float) (s : FreeSolution) (e : solutionOf k m r l ≡ s) where
-  pub left-answer : s .answer ≡ Kkt.solutionOf k m (r .solution)
+module _ (r : Result.Solved) (x multipliers l : List Float) (s : FreeSolution) (e : solutionOf r x multipliers l ≡ s) where
+  pub left-answer : s .answer ≡ answer (r .verdict) x multipliers
   unfolding solutionOf
   left-answer = ap (λ (z : FreeSolution). z .answer) (sym e)
 
@@ -43,23 +42,24 @@ module _ (k m : ℕ) (r : Result.Solved) (l : List Float) (s : FreeSolution) (e 
   left-factor = ap (λ (z : FreeSolution). z .factor) (sym e)
 
 -- ---- what the calls give
-module _ (f : Factoring) (l : List Float) (s : System) (noise : Float) (k m : ℕ) where
-  module _ (g : Found) (e : foundOf k m g ≡ fromFactor (optionOf (f .factored) (f .held)) l s noise) where
-    answered : foundOf k m g ≡ fromFactor (keptOf f .held) l s noise
+module _ (f : Factoring) (l : List Float) (s : System) (noise : Float) where
+  module _ (found : Bool) (x multipliers : List Float)
+      (e : foundOf found x multipliers ≡ fromFactor (optionOf (f .factored) (f .held)) l s noise) where
+    answered : foundOf found x multipliers ≡ fromFactor (keptOf f .held) l s noise
     answered = rw (held-is f) e
 
     -- by whether the factored solve found an optimum
-    pub after-found : g .found ≡ true →
-        solutionOf k m (record { solution = record { verdict = Solved; x = g .x; multipliers = g .multipliers }; factoring = f }) l
-        ≡ solveUpdated (factor (keptOf f) l) s noise
+    pub after-found : found ≡ true →
+        solutionOf (record { verdict = Solved; factoring = f }) x multipliers l ≡ solveUpdated (factor (keptOf f) l) s noise
     unfolding solutionOf solveUpdated matched pick
     after-found t =
-        rw (← answered, found-is k m g, t) (ap (λ a. record { answer = a; factoring = keptOf f; factor = l }) (solution-solved k m _ refl))
+        rw (← answered, found-is found x multipliers, t)
+        (ap (λ a. record { answer = a; factoring = keptOf f; factor = l }) (answer-solved x multipliers))
 
-    pub after-missed : (d : Factoring) (t : Noisy.Solution) → g .found ≡ false → Kkt.solutionOf k m t ≡ solveNoisyKkt s noise →
-        keptOf d ≡ reset (keptOf f) → solutionOf k m (record { solution = t; factoring = d }) l ≡ solveUpdated (factor (keptOf f) l) s noise
+    pub after-missed : (d : Factoring) (v : KktVerdict) (y z : List Float) → found ≡ false → answer v y z ≡ solveNoisyKkt s noise →
+        keptOf d ≡ reset (keptOf f) → solutionOf (record { verdict = v; factoring = d }) y z l ≡ solveUpdated (factor (keptOf f) l) s noise
     unfolding solutionOf solveUpdated matched fromEigenvectors pick
-    after-missed d t h a r = rw (← answered, found-is k m g, h, a, r)
+    after-missed d v y z h a r = rw (← answered, found-is found x multipliers, h, a, r)
 
 -- the system in the free variables, of what the code leaves
 pub free-system : (k m : ℕ) (r : Free) (qFree eFree : List Float) → r .columns ≤ length (r .kept) →

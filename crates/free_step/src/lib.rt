@@ -3,8 +3,8 @@
 ghost use mathlib.Core.Path.{_≡_};
 ghost use Prim.Native.Nat.{_≤_, _+_, _-_, _*_};
 ghost use lib.ListN.{length, take};
-ghost use Rattle.sizes.specs.Sizes as Sizes;
-ghost use Rattle.solution.specs.Solution.{solutionOf};
+ghost use Rattle.folds.specs.Fold.{over};
+ghost use Rattle.solution.specs.Solution.{answer};
 ghost use Rattle.segments.specs.Segments.{AllCut};
 ghost use Rattle.free_list.specs.FreeList.{Ends};
 ghost use Rattle.slack_rows.specs.SlackRows.{Rows, Solved, withSlackSteps};
@@ -24,51 +24,52 @@ use iterate::Passed;
 use ray::Ray;
 use segments::Segments;
 use solution::KktVerdict;
-use solution::Solution;
 
-// The step on the variables `solved`, with the slacks' after it.
+// The step on the variables `solved`, with the slacks' after it, over the start of `all`.
 fn slack_steps(
     e: &[f64],
     counts: Counts,
     solved: &[usize],
     slacks: &[usize],
-    step: [f64; sizes::VARIABLES],
-    residuals: [f64; sizes::COLUMNS],
-) -> [f64; sizes::VARIABLES]
+    step: &[f64],
+    residuals: &[f64],
+    all: &mut [f64],
+)
     requires { ⌜ (counts .originals ≤ counts .n)
         × (counts .n - counts .originals ≤ counts .m)
-        × (counts .m ≤ Sizes.columns)
         × Solved (counts .n) (counts .m) (now e) (now solved)
         × Rows (counts .n) (counts .m) (counts .originals) (firstSlackColumn (counts .originals) (counts .n) (counts .m)) (now slacks)
-        × (length (now solved) + length (now slacks) ≤ Sizes.variables) ⌝ }
-    ensures { λ r. ⌜ take (length (now (solved .entry)) + length (now (slacks .entry))) r
-        ≡ withSlackSteps (now (e .entry)) (counts .n) (now (solved .entry)) (now (slacks .entry)) (take (length (now (solved .entry))) step)
-        (take (counts .m) residuals) (counts .originals) (firstSlackColumn (counts .originals) (counts .n) (counts .m)) ⌝ }
+        × (length (now solved) ≤ length (now step))
+        × (counts .m ≤ length (now residuals))
+        × (length (now solved) + length (now slacks) ≤ length (now all)) ⌝ }
+    ensures { λ _. ⌜ now (all .exit)
+        ≡ over
+        (withSlackSteps (now (e .entry)) (counts .n) (now (solved .entry)) (now (slacks .entry)) (now (step .entry)) (now (residuals .entry))
+        (counts .originals) (firstSlackColumn (counts .originals) (counts .n) (counts .m)))
+        (now (all .entry)) ⌝ }
 {
     let originals = counts.originals;
     let n = counts.n;
     let m = counts.m;
-    let k = solved.len();
     let first = m - (n - originals);
-    let mut all = [0.0; sizes::VARIABLES];
     slack_rows::with_slack_steps(
         e,
         n,
         m,
         solved,
         slacks,
-        &step[..k],
-        &residuals[..m],
+        step,
+        residuals,
         originals,
         first,
-        &mut all,
+        all,
     );
-    all
 }
 
 // To the minimum on the free variables, which the solve gave as a step from x.
 fn to_minimum(
-    solution: Solution,
+    delta: &[f64],
+    multipliers: &[f64],
     iterate: Iterate,
     segments: [Segments; sizes::VARIABLES],
     fixed: &[bool],
@@ -90,23 +91,24 @@ fn to_minimum(
         × (counts .n ≤ length (now fixed))
         × Split (counts .originals) (counts .n) (counts .m) (now e) (iterate .board .state) (now indices) (now solved) (now slacks)
         × Lists (length (now solved)) (counts .m) free
+        × (length (now delta) ≡ length (now solved))
+        × (length (now multipliers) ≡ free .columns)
         × Ends (counts .n) segments (iterate .board .state) (now lower) (now upper) ⌝ }
     ensures { λ r. ⌜ passedOf (counts .n) (counts .m) r
         ≡ FreeStep.toMinimum (counts .originals) (counts .n) (counts .m) (now (q .entry)) (now (c .entry)) (now (e .entry)) segments
         (now (fixed .entry)) (magnitudes .q) (magnitudes .linear) (now (solved .entry)) (now (slacks .entry))
-        (take (free .columns) (free .kept)) (take (counts .m) (free .residuals)) (take (length (now (solved .entry))) (solution .x))
-        (take (free .columns) (solution .multipliers)) iterate ⌝ }
+        (take (free .columns) (free .kept)) (take (counts .m) (free .residuals)) (now (delta .entry)) (now (multipliers .entry)) iterate ⌝ }
     ensures { λ r. ⌜ Kept (counts .n) segments (r .iterate) ⌝ }
 {
     let k = solved.len();
+    let m = counts.m;
     let count = indices.len();
     let columns = free.columns;
     let kept = free.kept;
     let residuals = free.residuals;
-    let delta = solution.x;
-    let multipliers = solution.multipliers;
-    let all = slack_rows::all_multipliers(&multipliers[..columns], &kept[..columns]);
-    let step = slack_steps(e, counts, solved, slacks, delta, residuals);
+    let all = slack_rows::all_multipliers(multipliers, &kept[..columns]);
+    let mut step = [0.0; sizes::VARIABLES];
+    slack_steps(e, counts, solved, slacks, delta, &residuals[..m], &mut step);
     full_step::toward(
         iterate,
         segments,
@@ -160,11 +162,22 @@ fn on_ray(
     ensures { λ r. ⌜ Kept (counts .n) segments (r .iterate) ⌝ }
 {
     if ray.found {
+        let k = solved.len();
         let n = counts.n;
+        let m = counts.m;
         let count = indices.len();
         let direction = ray.direction;
         let none = [0.0; sizes::COLUMNS];
-        let step = slack_steps(e, counts, solved, slacks, direction, none);
+        let mut step = [0.0; sizes::VARIABLES];
+        slack_steps(
+            e,
+            counts,
+            solved,
+            slacks,
+            &direction[..k],
+            &none[..m],
+            &mut step,
+        );
         return full_step::along(iterate, segments, n, indices, &step[..count], lower, upper);
     }
     iterate::ended(Ending::SingularCovariance, iterate)
@@ -229,7 +242,9 @@ fn descend(
 
 // The step that the solve on the free variables gave, by its verdict.
 pub fn step(
-    solution: Solution,
+    verdict: KktVerdict,
+    delta: &[f64],
+    multipliers: &[f64],
     iterate: Iterate,
     segments: [Segments; sizes::VARIABLES],
     fixed: &[bool],
@@ -253,6 +268,8 @@ pub fn step(
         × (counts .n ≤ length (now fixed))
         × Split (counts .originals) (counts .n) (counts .m) (now e) (iterate .board .state) (now indices) (now solved) (now slacks)
         × Lists (length (now solved)) (counts .m) free
+        × (length (now delta) ≡ length (now solved))
+        × (length (now multipliers) ≡ free .columns)
         × (length (now solved) * length (now solved) ≤ length (now «q_free»))
         × (length (now solved) * free .columns ≤ length (now «e_free»))
         × Ends (counts .n) segments (iterate .board .state) (now lower) (now upper) ⌝ }
@@ -260,13 +277,13 @@ pub fn step(
         ≡ FreeStep.step (counts .originals) (counts .n) (counts .m) (now (q .entry)) (now (c .entry)) (now (e .entry)) segments
         (now (fixed .entry)) (magnitudes .q) (magnitudes .linear) (now (solved .entry)) (now (slacks .entry))
         (gatheredOf (length (now (solved .entry))) (counts .m) free (now («q_free» .entry)) (now («e_free» .entry))) iterate
-        (solutionOf (length (now (solved .entry))) (free .columns) solution) ⌝ }
+        (answer verdict (now (delta .entry)) (now (multipliers .entry))) ⌝ }
     ensures { λ r. ⌜ Kept (counts .n) segments (r .iterate) ⌝ }
 {
-    let verdict = solution.verdict;
     match verdict {
         KktVerdict::Solved => to_minimum(
-            solution,
+            delta,
+            multipliers,
             iterate,
             segments,
             fixed,

@@ -26,22 +26,23 @@ atBlocking originals n m q c e segments fixed qAmax linear indices xFree target 
     let board = settled indices target lower upper tolerance (i .board) in
     decided n i board multipliers (release originals n m q c e segments fixed qAmax linear multipliers board)
 
--- `let tolerance = ..; let blocking = (0..indices.len()).filter_map(..).min_by(..)`
+-- `let blocking = (0..indices.len()).filter_map(..).min_by(..)`
 unfoldable pub stepped : (originals n m : ℕ) (q c e : List Float) (segments : List Segments) (fixed : List Bool) (qAmax linear : Float)
-    (indices : List ℕ) (solved : ℕ) (xFree target lower upper multipliers : List Float) → Iterate → Pass Iterate Result
-stepped originals n m q c e segments fixed qAmax linear indices solved xFree target lower upper multipliers i =
-    let tolerance = stepTolerance solved target originals (take n (i .board .x)) in
+    (indices : List ℕ) (tolerance : Float) (xFree target lower upper multipliers : List Float) → Iterate → Pass Iterate Result
+stepped originals n m q c e segments fixed qAmax linear indices tolerance xFree target lower upper multipliers i =
     atBlocking originals n m q c e segments fixed qAmax linear indices xFree target lower upper tolerance multipliers i
     (firstPassed (length indices) xFree target lower upper tolerance)
 
--- `let target = &x_free + delta`
+-- `let target = &x_free + delta; let tolerance = ..`
 unfoldable pub toward : (originals n m : ℕ) (q c e : List Float) (segments : List Segments) (fixed : List Bool) (qAmax linear : Float) (solved : ℕ)
     (step multipliers : List Float) → Iterate → Pass Iterate Result
 toward originals n m q c e segments fixed qAmax linear solved step multipliers i =
     let indices = freeIndices n (i .board .state) in
     let k = length indices in
     let xFree = select k (take n (i .board .x)) indices in
-    stepped originals n m q c e segments fixed qAmax linear indices solved xFree (add k xFree step) (lowerEnds k indices segments (i .board .state))
+    let target = add k xFree step in
+    let tolerance = stepTolerance solved target originals (take n (i .board .x)) in
+    stepped originals n m q c e segments fixed qAmax linear indices tolerance xFree target (lowerEnds k indices segments (i .board .state))
     (upperEnds k indices segments (i .board .state)) multipliers i
 
 -- ---- along a direction

@@ -29,7 +29,7 @@ fn stepped(
     counts: Counts,
     magnitudes: Magnitudes,
     indices: &[usize],
-    solved: usize,
+    tolerance: f64,
     x_free: &[f64],
     target: &[f64],
     lower: &[f64],
@@ -41,21 +41,17 @@ fn stepped(
         × Kept (counts .n) segments iterate
         × (counts .n ≤ length (now fixed))
         × (now indices ≡ freeIndices (counts .n) (iterate .board .state))
-        × Entries (length (now indices)) (now «x_free») (now target) (now lower) (now upper)
-        × (solved ≤ length (now target)) ⌝ }
+        × Entries (length (now indices)) (now «x_free») (now target) (now lower) (now upper) ⌝ }
     ensures { λ r. ⌜ passedOf (counts .n) (counts .m) r
         ≡ FullStep.stepped (counts .originals) (counts .n) (counts .m) (now (q .entry)) (now (c .entry)) (now (e .entry)) segments
-        (now (fixed .entry)) (magnitudes .q) (magnitudes .linear) (now (indices .entry)) solved (now («x_free» .entry)) (now (target .entry))
+        (now (fixed .entry)) (magnitudes .q) (magnitudes .linear) (now (indices .entry)) tolerance (now («x_free» .entry)) (now (target .entry))
         (now (lower .entry)) (now (upper .entry)) (take (counts .m) multipliers) iterate ⌝ }
     ensures { λ r. ⌜ Kept (counts .n) segments (r .iterate) ⌝ }
 {
-    let n = counts.n;
-    let board = iterate.board;
-    let x = board.x;
     let count = indices.len();
-    let tolerance = blocking::step_tolerance(target, solved, &x[..n], counts.originals);
     let hit = blocking::first_passed(x_free, target, lower, upper, count, tolerance);
     let Hit::Found(step, k, side) = hit else {
+        let board = iterate.board;
         let next = advance::settled(board, indices, target, lower, upper, tolerance);
         return advance::decided(
             iterate,
@@ -159,6 +155,7 @@ pub fn toward(
     vector::select(&x[..n], n, indices, count, &mut x_free);
     let mut target = [0.0; sizes::VARIABLES];
     vector::add(&x_free[..count], step, count, &mut target);
+    let tolerance = blocking::step_tolerance(&target[..count], solved, &x[..n], counts.originals);
     stepped(
         iterate,
         segments,
@@ -169,7 +166,7 @@ pub fn toward(
         counts,
         magnitudes,
         indices,
-        solved,
+        tolerance,
         &x_free[..count],
         &target[..count],
         lower,

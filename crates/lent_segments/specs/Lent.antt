@@ -1,9 +1,9 @@
--- qp.rs, `State::Free(j) => (&segments[i], j)`: what is read of a free variable's record.
+-- qp.rs, `State::Free(j) => (&segments[i], j)`: what is read of a free variable's record, and of each one's in a list.
 use Prim.Native.Nat.{ℕ, _+_, _<_}
 use mathlib.Core.List.{List}
-use lib.ListN.{length, getD, set}
+use lib.ListN.{length, getD}
 use lib.Ieee.{Float}
-use Rattle.folds.specs.Fold.{fold}
+use Rattle.folds.specs.Fold.{tab}
 use Rattle.sizes.specs.Sizes as Sizes
 use Rattle.arith.specs.Float.{at}
 use Rattle.segments.specs.Segments.{Cut, IsFree, Placed, segmentsAt, stateAt}
@@ -35,16 +35,19 @@ pub record Listed (indices : List ℕ) (segments : List Segments) (state : List 
   pub below : (t : ℕ) → t < length indices → getD indices t 0 < Sizes.variables
   pub inside : (t : ℕ) → t < length indices → Inside (segmentsAt segments (getD indices t 0)) (stateAt state (getD indices t 0))
 
--- `free.iter().map(..)`, of the first k listed, over the start of a list
-unfoldable pub readOver : (Segment → Float) → (k : ℕ) (indices : List ℕ) (segments : List Segments) (state : List Spot) → List Float → List Float
-readOver read k indices segments state =
-    fold k (λ t l. let i = getD indices t 0 in set l t (read (segmentIn (segmentsAt segments i) (stateAt state i))))
+-- `free.iter().map(..)`, of the first k listed
+unfoldable pub entries : (Segment → Float) → (k : ℕ) (indices : List ℕ) (segments : List Segments) (state : List Spot) → List Float
+entries read k indices segments state =
+    tab k (λ t. let i = getD indices t 0 in read (segmentIn (segmentsAt segments i) (stateAt state i)))
 
-abbrev pub lowerOver : (k : ℕ) (indices : List ℕ) (segments : List Segments) (state : List Spot) → List Float → List Float
-lowerOver = readOver (λ s. s .lower)
+-- `free.iter().map(|(s, j)| s.points[*j]).collect()`
+abbrev pub lowerEnds : (k : ℕ) (indices : List ℕ) (segments : List Segments) (state : List Spot) → List Float
+lowerEnds = entries (λ s. s .lower)
 
-abbrev pub upperOver : (k : ℕ) (indices : List ℕ) (segments : List Segments) (state : List Spot) → List Float → List Float
-upperOver = readOver (λ s. s .upper)
+-- `free.iter().map(|(s, j)| s.points[j + 1]).collect()`
+abbrev pub upperEnds : (k : ℕ) (indices : List ℕ) (segments : List Segments) (state : List Spot) → List Float
+upperEnds = entries (λ s. s .upper)
 
-abbrev pub slopeOver : (k : ℕ) (indices : List ℕ) (segments : List Segments) (state : List Spot) → List Float → List Float
-slopeOver = readOver (λ s. s .slope)
+-- `free.iter().map(|(s, j)| s.slopes[*j]).take(solved.len())`
+abbrev pub slopes : (k : ℕ) (indices : List ℕ) (segments : List Segments) (state : List Spot) → List Float
+slopes = entries (λ s. s .slope)

@@ -26,14 +26,14 @@ use Rattle.iterate.specs.Problem.{problem, firstSlackColumn}
 use Rattle.iterate.specs.Iterate.{Result}
 use Rattle.iterate.specs.declared.Iterate.{Iterate}
 use Rattle.advance.specs.Advance.{withoutFree}
-use Rattle.solution.specs.Solution as Solution
+use Rattle.solution.specs.Solution.{answer}
 use Rattle.free_problem.specs.FreeProblem.{Gathered, gather}
 use Rattle.free_solve.specs.declared.Solved.{Solved}
 use Rattle.free_solve.specs.FreeSolve.{solutionOf, solveFree}
 use Rattle.free_solve.specs.Laws.{left-answer, left-factoring, left-factor}
 use Rattle.free_step.specs.FreeStep.{Split, step}
 use Rattle.pass.specs.State.{State, state, beside}
-use Rattle.pass.specs.Pass.{solveAndStep, freePass, pass}
+use Rattle.pass.specs.Pass.{freePass, pass}
 
 -- ---- the split
 lead-length : {solved : List ℕ} (originals : ℕ) (indices : List ℕ) → solved ≡ take (partitionPoint originals indices) indices →
@@ -78,21 +78,23 @@ module _ {indices solved : List ℕ} (originals n : ℕ) (state : List Spot) (wi
 -- ---- what the calls give
 module _ (originals n m : ℕ) (q c e : List Float) (segments : List Segments) (fixed : List Bool) (qAmax linear : Float)
     (solved slacks : List ℕ) (i : Iterate) (f : Kept) (l : List Float) where
-  pub step-from : {x : Pass Iterate Result} (k columns : ℕ) (g : Gathered) (r : Solved) (l′ : List Float) →
-      solutionOf k columns r l′ ≡ solveFree q n solved g f l →
-      x ≡ step originals n m q c e segments fixed qAmax linear solved slacks g i (Solution.solutionOf k columns (r .solution)) →
-      beside (keptOf (r .factoring)) l′ x ≡ solveAndStep originals n m q c e segments fixed qAmax linear solved slacks g i f l
-  unfolding solveAndStep
-  step-from k columns g r l′ s h = rw (h, left-answer _ _ r l′ _ s, left-factoring _ _ r l′ _ s, left-factor _ _ r l′ _ s)
-
   module _ (b : List Float) where
-    pub free-from : {x : Pass State Result} {g : Gathered} {slope : List Float} →
+    pub free-from : {x : Pass Iterate Result} {g : Gathered} {slope : List Float} (r : Solved) (delta multipliers l′ : List Float) →
         g ≡ gather (problem originals n m q c e b) (take n (i .board .x)) solved slacks slope →
         slope ≡ slopes (length solved) (freeIndices n (i .board .state)) segments (i .board .state) →
-        x ≡ solveAndStep originals n m q c e segments fixed qAmax linear solved slacks g i f l →
-        x ≡ freePass (problem originals n m q c e b) segments fixed qAmax linear solved slacks i f l
+        solutionOf r delta multipliers l′ ≡ solveFree q n solved g f l →
+        x ≡ step originals n m q c e segments fixed qAmax linear solved slacks g i (answer (r .verdict) delta multipliers) →
+        beside (keptOf (r .factoring)) l′ x ≡ freePass (problem originals n m q c e b) segments fixed qAmax linear solved slacks i f l
     unfolding freePass
-    free-from g s h = h ∙ rw (g, s)
+    free-from r delta multipliers l′ g p s h =
+        rw (
+          h,
+          ← p,
+          ← g,
+          left-answer r delta multipliers l′ _ s,
+          left-factoring r delta multipliers l′ _ s,
+          left-factor r delta multipliers l′ _ s,
+        )
 
     module _ {indices : List ℕ} (free : indices ≡ freeIndices n (i .board .state))
         (lead : solved ≡ take (partitionPoint originals indices) indices) where

@@ -14,26 +14,20 @@ use Rattle.free_list.specs.FreeList.{freeIndices, slopes}
 use Rattle.iterate.specs.Problem.{Problem, problem}
 use Rattle.iterate.specs.Iterate.{Result}
 use Rattle.iterate.specs.declared.Iterate.{Iterate}
-use Rattle.free_problem.specs.FreeProblem.{Gathered, gather}
+use Rattle.free_problem.specs.FreeProblem.{gather}
 use Rattle.free_solve.specs.FreeSolve.{solveFree}
 use Rattle.free_step.specs.FreeStep.{step}
 use Rattle.advance.specs.Advance.{withoutFree}
 use Rattle.pass.specs.State.{State, state, beside}
 
--- `let solution = match factored { .. }`, and the step that it gives
-unfoldable pub solveAndStep : (originals n m : ℕ) (q c e : List Float) (segments : List Segments) (fixed : List Bool) (qAmax linear : Float)
-    (solved slacks : List ℕ) → Gathered → Iterate → Kept → (l : List Float) → Pass State Result
-solveAndStep originals n m q c e segments fixed qAmax linear solved slacks g i f l =
-    let s = solveFree q n solved g f l in
-    beside (s .factoring) (s .factor) (step originals n m q c e segments fixed qAmax linear solved slacks g i (s .answer))
-
--- from `let slope = ..` on
+-- from `let slope = ..` on: the problem in the free variables, `let solution = match factored { .. }`, and the step that it gives
 unfoldable pub freePass : Problem → (segments : List Segments) (fixed : List Bool) (qAmax linear : Float) (solved slacks : List ℕ) → Iterate →
     Kept → (l : List Float) → Pass State Result
 freePass (problem originals n m q c e b) segments fixed qAmax linear solved slacks i f l =
-    solveAndStep originals n m q c e segments fixed qAmax linear solved slacks
-    (gather (problem originals n m q c e b) (take n (i .board .x)) solved slacks
-    (slopes (length solved) (freeIndices n (i .board .state)) segments (i .board .state))) i f l
+    let slope = slopes (length solved) (freeIndices n (i .board .state)) segments (i .board .state) in
+    let g = gather (problem originals n m q c e b) (take n (i .board .x)) solved slacks slope in
+    let s = solveFree q n solved g f l in
+    beside (s .factoring) (s .factor) (step originals n m q c e segments fixed qAmax linear solved slacks g i (s .answer))
 
 -- `let (solved, slacks) = split_slacks(&indices, originals); if solved.is_empty() { .. }`
 unfoldable pub pass : Problem → (segments : List Segments) (fixed : List Bool) (qAmax linear : Float) → State → Pass State Result

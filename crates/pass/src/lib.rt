@@ -8,16 +8,12 @@ ghost use Rattle.sizes.specs.Sizes as Sizes;
 ghost use Rattle.factor_update.specs.Factor.{Rising};
 ghost use Rattle.factoring.specs.Kept.{keptOf, Good};
 ghost use Rattle.segments.specs.Segments.{AllCut};
-ghost use Rattle.free_list.specs.FreeList.{Ends, freeIndices};
 ghost use Rattle.iterate.specs.Problem.{problem, Shaped, Room};
 ghost use Rattle.iterate.specs.Iterate.{Kept};
-ghost use Rattle.free_problem.specs.FreeProblem.{gatheredOf, Lists};
-ghost use Rattle.advance.specs.Advance.{Shape};
 ghost use Rattle.free_step.specs.FreeStep.{Split};
 ghost use Rattle.pass.specs.State.{madeOf, state};
 ghost use Rattle.pass.specs.Pass as Definition;
 use factoring::Factoring;
-use free_problem::Free;
 use iterate::Counts;
 use iterate::Iterate;
 use iterate::Magnitudes;
@@ -28,87 +24,6 @@ use segments::Segments;
 pub struct Made {
     pub passed: Passed,
     pub factoring: Factoring,
-}
-
-// The problem in the free variables is solved, and the step made.
-fn solve_and_step(
-    iterate: Iterate,
-    factoring: Factoring,
-    segments: [Segments; sizes::VARIABLES],
-    fixed: &[bool],
-    q: &[f64],
-    c: &[f64],
-    e: &[f64],
-    counts: Counts,
-    magnitudes: Magnitudes,
-    indices: &[usize],
-    solved: &[usize],
-    slacks: &[usize],
-    free: Free,
-    q_free: &[f64],
-    e_free: &[f64],
-    lower: &[f64],
-    upper: &[f64],
-    room: &mut [f64],
-    gram: &mut [f64],
-    l: &mut [f64],
-) -> Made
-    requires { ⌜ Shape (counts .originals) (counts .n) (counts .m) (now q) (now c) (now e)
-        × (counts .originals ≤ Sizes.originals)
-        × AllCut (counts .n) segments
-        × Kept (counts .n) segments iterate
-        × (counts .n ≤ length (now fixed))
-        × Split (counts .originals) (counts .n) (counts .m) (now e) (iterate .board .state) (now indices) (now solved) (now slacks)
-        × Lists (length (now solved)) (counts .m) free
-        × Ends (counts .n) segments (iterate .board .state) (now lower) (now upper)
-        × Rising (counts .originals) (now solved)
-        × Room (counts .originals) (counts .n) (counts .m) (now room) (now «q_free») (now «e_free») (now gram)
-        × Good (counts .originals) factoring (now l)
-        × (counts .originals * counts .originals ≤ length (now l)) ⌝ }
-    ensures { λ r. ⌜ madeOf (counts .n) (counts .m) r (now (l .exit))
-        ≡ Definition.solveAndStep (counts .originals) (counts .n) (counts .m) (now (q .entry)) (now (c .entry)) (now (e .entry)) segments
-        (now (fixed .entry)) (magnitudes .q) (magnitudes .linear) (now (solved .entry)) (now (slacks .entry))
-        (gatheredOf (length (now (solved .entry))) (counts .m) free (now («q_free» .entry)) (now («e_free» .entry))) iterate
-        (keptOf factoring) (now (l .entry)) ⌝ }
-    ensures { λ r. ⌜ Kept (counts .n) segments (r .passed .iterate) × Good (counts .originals) (r .factoring) (now (l .exit)) ⌝ }
-{
-    let s = free_solve::solve_free(
-        factoring,
-        q,
-        counts,
-        solved,
-        free,
-        q_free,
-        e_free,
-        room,
-        gram,
-        l,
-    );
-    let solution = s.solution;
-    let left = s.factoring;
-    let passed = free_step::step(
-        solution,
-        iterate,
-        segments,
-        fixed,
-        q,
-        c,
-        e,
-        counts,
-        magnitudes,
-        indices,
-        solved,
-        slacks,
-        free,
-        q_free,
-        e_free,
-        lower,
-        upper,
-    );
-    Made {
-        passed: passed,
-        factoring: left,
-    }
 }
 
 // With free originals: the problem in the free variables is gathered, solved, and the step made.
@@ -172,9 +87,30 @@ fn free_pass(
         q_free,
         e_free,
     );
-    solve_and_step(
-        iterate,
+    let columns = free.columns;
+    let mut delta = [0.0; sizes::ORIGINALS];
+    let mut multipliers = [0.0; sizes::COLUMNS];
+    let s = free_solve::solve_free(
         factoring,
+        q,
+        counts,
+        solved,
+        free,
+        &q_free[..],
+        &e_free[..],
+        room,
+        gram,
+        l,
+        &mut delta,
+        &mut multipliers,
+    );
+    let verdict = s.verdict;
+    let left = s.factoring;
+    let passed = free_step::step(
+        verdict,
+        &delta[..k],
+        &multipliers[..columns],
+        iterate,
         segments,
         fixed,
         q,
@@ -190,75 +126,11 @@ fn free_pass(
         &e_free[..],
         &lower[..count],
         &upper[..count],
-        room,
-        gram,
-        l,
-    )
-}
-
-// With the free variables split: with no free original every variable is freed.
-fn pass_over(
-    iterate: Iterate,
-    factoring: Factoring,
-    segments: [Segments; sizes::VARIABLES],
-    fixed: &[bool],
-    q: &[f64],
-    c: &[f64],
-    e: &[f64],
-    b: &[f64],
-    counts: Counts,
-    magnitudes: Magnitudes,
-    indices: &[usize],
-    room: &mut [f64],
-    q_free: &mut [f64],
-    e_free: &mut [f64],
-    gram: &mut [f64],
-    l: &mut [f64],
-) -> Made
-    requires { ⌜ Shaped (counts .originals) (counts .n) (counts .m) (now q) (now c) (now e) (now b)
-        × AllCut (counts .n) segments
-        × Kept (counts .n) segments iterate
-        × (length (now fixed) ≡ counts .n)
-        × (now indices ≡ freeIndices (counts .n) (iterate .board .state))
-        × Room (counts .originals) (counts .n) (counts .m) (now room) (now «q_free») (now «e_free») (now gram)
-        × Good (counts .originals) factoring (now l)
-        × (counts .originals * counts .originals ≤ length (now l)) ⌝ }
-    ensures { λ r. ⌜ madeOf (counts .n) (counts .m) r (now (l .exit))
-        ≡ Definition.pass (problem (counts .originals) (counts .n) (counts .m) (now (q .entry)) (now (c .entry)) (now (e .entry)) (now (b .entry)))
-        segments (now (fixed .entry)) (magnitudes .q) (magnitudes .linear) (state iterate (keptOf factoring) (now (l .entry))) ⌝ }
-    ensures { λ r. ⌜ Kept (counts .n) segments (r .passed .iterate) × Good (counts .originals) (r .factoring) (now (l .exit)) ⌝ }
-{
-    let n = counts.n;
-    let originals = counts.originals;
-    let solved = free_list::split_slacks(indices, originals);
-    let k = solved.len();
-    if k == 0 {
-        let passed = advance::without_free(iterate, segments, fixed, n, originals);
-        return Made {
-            passed: passed,
-            factoring: factoring,
-        };
+    );
+    Made {
+        passed: passed,
+        factoring: left,
     }
-    free_pass(
-        iterate,
-        factoring,
-        segments,
-        fixed,
-        q,
-        c,
-        e,
-        b,
-        counts,
-        magnitudes,
-        indices,
-        solved,
-        &indices[k..],
-        room,
-        q_free,
-        e_free,
-        gram,
-        l,
-    )
 }
 
 pub fn pass(
@@ -294,7 +166,17 @@ pub fn pass(
     let state = board.state;
     let mut indices = [0; sizes::VARIABLES];
     let count = free_list::free_indices(state, counts.n, &mut indices);
-    pass_over(
+    let indices = &indices[..count];
+    let solved = free_list::split_slacks(indices, counts.originals);
+    let k = solved.len();
+    if k == 0 {
+        let passed = advance::without_free(iterate, segments, fixed, counts.n, counts.originals);
+        return Made {
+            passed: passed,
+            factoring: factoring,
+        };
+    }
+    free_pass(
         iterate,
         factoring,
         segments,
@@ -305,7 +187,9 @@ pub fn pass(
         b,
         counts,
         magnitudes,
-        &indices[..count],
+        indices,
+        solved,
+        &indices[k..],
         room,
         q_free,
         e_free,

@@ -294,10 +294,10 @@ fn solved(
     ensures { λ r. ⌜ Hooks.answered r (now (x .exit)) (now (multipliers .exit))
         ≡ solveFactored (now (l .entry)) (system n m (now (k .entry)) (now (c .entry)) (now (e .entry)) (now (b .entry))) noise ⌝ }
 {
-    let f = range_space::solve_factored(l, k, c, e, b, n, m, noise, w, gram);
-    let fx = f.x;
-    let fm = f.multipliers;
-    given(f.found, fx, fm, n, m, x, multipliers)
+    let mut fx = [0.0; sizes::VARIABLES];
+    let mut fm = [0.0; sizes::COLUMNS];
+    let found = range_space::solve_factored(l, k, c, e, b, n, m, noise, w, gram, &mut fx, &mut fm);
+    given(found, fx, fm, n, m, x, multipliers)
 }
 
 fn answer(

@@ -1,9 +1,8 @@
 -- qp.rs, `solve_factored`: the KKT system of a positive definite K with the Cholesky factor l, by the range-space method.
 -- K is n by n, E is n by m; c and x have n elements, b and the multipliers m.
 use Prim.Native.Nat.{ℕ, _*_}
-use mathlib.Core.Bool.{true, false}
+use mathlib.Core.Bool.{Bool, true, false}
 use mathlib.Core.List.{List}
-use lib.ListN.{take}
 use lib.Ieee.{Float}
 use Rattle.folds.specs.Fold.{tab, pick, Out, out}
 use Rattle.vector.specs.Vector.{norm, copy, add, sub, div}
@@ -14,15 +13,14 @@ use Rattle.scaled.specs.Scaled.{kktResidual, withinRounding}
 use Rattle.scaled.specs.declared.Rounding.{Rounding}
 use Rattle.scaled.specs.declared.Rounding.the-variants.{Overflowed, Outside, Within}
 use Rattle.factoring.specs.Kept.{definite}
-use Rattle.range_space.specs.declared.Found.{Found}
 
 -- ---- the answer: `Some((x, multipliers))` or `None`
 pub data FactoredSolution : Type 0 where
   some : (x multipliers : List Float) → FactoredSolution
   none : FactoredSolution
 
-unfoldable pub foundOf : (n m : ℕ) → Found → FactoredSolution
-foundOf n m r = pick (r .found) (some (take n (r .x)) (take m (r .multipliers))) none
+unfoldable pub foundOf : Bool → (x multipliers : List Float) → FactoredSolution
+foundOf found x multipliers = pick found (some x multipliers) none
 
 -- ---- W, its columns at unit length, and the factor of WᵀW
 -- `l.solve_lower_triangular(e)`

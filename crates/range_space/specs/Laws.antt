@@ -1,11 +1,11 @@
 -- What a result holds: x and the multipliers where they are found.
 use mathlib.Core.Path.{_≡_, refl}
-use Prim.Native.Nat.{ℕ}
-use lib.ListN.{take}
+use mathlib.Core.Bool.{Bool}
+use mathlib.Core.List.{List}
+use lib.Ieee.{Float}
 use Rattle.folds.specs.Fold.{pick}
 use Rattle.range_space.specs.Factored.{some, none, foundOf}
-use Rattle.range_space.specs.declared.Found.{Found}
 
-pub found-is : (n m : ℕ) (r : Found) → foundOf n m r ≡ pick (r .found) (some (take n (r .x)) (take m (r .multipliers))) none
+pub found-is : (found : Bool) (x multipliers : List Float) → foundOf found x multipliers ≡ pick found (some x multipliers) none
 unfolding foundOf
-found-is n m r = refl
+found-is found x multipliers = refl

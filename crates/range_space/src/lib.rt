@@ -1,10 +1,10 @@
 // qp.rs, `solve_factored`: the KKT system of a positive definite K with the Cholesky factor l, by the range-space method.
 // K is n by n, E is n by m, with up to 32 variables and 24 columns. No diagonal entry of l is 0, so every system of it is solved.
 ghost use mathlib.Core.Path.{_≡_};
-ghost use mathlib.Core.Bool.{true, false};
+ghost use mathlib.Core.Bool.{true};
 ghost use Prim.Native.Nat.{_≤_, _*_};
 ghost use lib.ListN.{length, take};
-ghost use Rattle.folds.specs.Fold.{pick, out};
+ghost use Rattle.folds.specs.Fold.{out};
 ghost use Rattle.sizes.specs.Sizes as Sizes;
 ghost use Rattle.vector.specs.Vector as Vector;
 ghost use Rattle.matrix.specs.Matrix as Matrix;
@@ -13,23 +13,6 @@ ghost use Rattle.scaled.specs.System.{Sized, system};
 ghost use Rattle.range_space.specs.Room.{Ranged};
 ghost use Rattle.range_space.specs.Factored as Definition;
 use scaled::Rounding;
-
-// Whether there is a solution, x and the multipliers.
-pub struct Found {
-    pub found: bool,
-    pub x: [f64; sizes::VARIABLES],
-    pub multipliers: [f64; sizes::COLUMNS],
-}
-
-fn none() -> Found
-    ensures { λ r. ⌜ r .found ≡ false ⌝ }
-{
-    Found {
-        found: false,
-        x: [0.0; sizes::VARIABLES],
-        multipliers: [0.0; sizes::COLUMNS],
-    }
-}
 
 // W = L⁻¹E
 fn whiten(l: &[f64], e: &[f64], n: usize, m: usize, w: &mut [f64])
@@ -246,7 +229,7 @@ fn judged(
     multipliers: &[f64],
 ) -> bool
     requires { ⌜ Sized n m (now k) (now c) (now e) (now b) × (n ≤ length (now x)) × (m ≤ length (now multipliers)) ⌝ }
-    ensures { λ r. ⌜ pick r (Definition.some (now (x .entry)) (now (multipliers .entry))) Definition.none
+    ensures { λ r. ⌜ Definition.foundOf r (now (x .entry)) (now (multipliers .entry))
         ≡ Definition.judged (system n m (now (k .entry)) (now (c .entry)) (now (e .entry)) (now (b .entry))) noise
         (Definition.some (now (x .entry)) (now (multipliers .entry))) ⌝ }
 {
@@ -258,7 +241,7 @@ fn judged(
     }
 }
 
-// The solve over W, the lengths and the factor of WᵀW.
+// The solve over W, the lengths and the factor of WᵀW: whether there is a solution, which then stands over the starts of x and multipliers.
 fn solve_over(
     l: &[f64],
     w: &[f64],
@@ -271,17 +254,20 @@ fn solve_over(
     n: usize,
     m: usize,
     noise: f64,
-) -> Found
-    requires { ⌜ Ranged n m (now l) (now w) (now by) (now g) × Sized n m (now k) (now c) (now e) (now b) ⌝ }
-    ensures { λ r. ⌜ Definition.foundOf n m r
+    x: &mut [f64],
+    multipliers: &mut [f64],
+) -> bool
+    requires { ⌜ Ranged n m (now l) (now w) (now by) (now g)
+        × Sized n m (now k) (now c) (now e) (now b)
+        × (n ≤ length (now x))
+        × (m ≤ length (now multipliers)) ⌝ }
+    ensures { λ r. ⌜ Definition.foundOf r (take n (now (x .exit))) (take m (now (multipliers .exit)))
         ≡ Definition.judged (system n m (now (k .entry)) (now (c .entry)) (now (e .entry)) (now (b .entry))) noise
         (Definition.refined (now (l .entry)) (now (w .entry)) (now (by .entry)) (now (g .entry))
         (system n m (now (k .entry)) (now (c .entry)) (now (e .entry)) (now (b .entry)))) ⌝ }
 {
     let mut x0 = [0.0; sizes::ORIGINALS];
     let mut multipliers0 = [0.0; sizes::COLUMNS];
-    let mut x = [0.0; sizes::VARIABLES];
-    let mut multipliers = [0.0; sizes::COLUMNS];
     solve(l, w, by, g, n, m, c, b, &mut x0, &mut multipliers0);
     refine(
         l,
@@ -296,15 +282,10 @@ fn solve_over(
         m,
         &x0[..n],
         &multipliers0[..m],
-        &mut x,
-        &mut multipliers,
+        x,
+        multipliers,
     );
-    let found = judged(k, c, e, b, n, m, noise, &x[..n], &multipliers[..m]);
-    Found {
-        found: found,
-        x: x,
-        multipliers: multipliers,
-    }
+    judged(k, c, e, b, n, m, noise, &x[..n], &multipliers[..m])
 }
 
 // The solve with room for W and WᵀW, and no more.
@@ -319,25 +300,43 @@ fn solve_in(
     noise: f64,
     w: &mut [f64],
     g: &mut [f64],
-) -> Found
+    x: &mut [f64],
+    multipliers: &mut [f64],
+) -> bool
     requires { ⌜ Sized n m (now k) (now c) (now e) (now b)
         × (n * n ≤ length (now l))
         × (Triangular.regular (now l) n ≡ true)
         × (length (now w) ≡ n * m)
-        × (length (now g) ≡ m * m) ⌝ }
-    ensures { λ r. ⌜ Definition.foundOf n m r
+        × (length (now g) ≡ m * m)
+        × (n ≤ length (now x))
+        × (m ≤ length (now multipliers)) ⌝ }
+    ensures { λ r. ⌜ Definition.foundOf r (take n (now (x .exit))) (take m (now (multipliers .exit)))
         ≡ Definition.solveFactored (now (l .entry)) (system n m (now (k .entry)) (now (c .entry)) (now (e .entry)) (now (b .entry))) noise ⌝ }
 {
     whiten(l, e, n, m, w);
     let by = lengths(&w[..], n, m);
     matrix::divide_columns(w, n, m, &by[..m]);
     if factor_gram(&w[..], n, m, g) {
-        return solve_over(l, &w[..], &by[..m], &g[..], k, c, e, b, n, m, noise);
+        return solve_over(
+            l,
+            &w[..],
+            &by[..m],
+            &g[..],
+            k,
+            c,
+            e,
+            b,
+            n,
+            m,
+            noise,
+            x,
+            multipliers,
+        );
     }
-    none()
+    false
 }
 
-// W stands in w, and the factor of WᵀW in gram.
+// Whether there is a solution, which then stands over the starts of x and multipliers. W stands in w, and the factor of WᵀW in gram.
 pub fn solve_factored(
     l: &[f64],
     k: &[f64],
@@ -349,13 +348,17 @@ pub fn solve_factored(
     noise: f64,
     w: &mut [f64],
     gram: &mut [f64],
-) -> Found
+    x: &mut [f64],
+    multipliers: &mut [f64],
+) -> bool
     requires { ⌜ Sized n m (now k) (now c) (now e) (now b)
         × (n * n ≤ length (now l))
         × (Triangular.regular (now l) n ≡ true)
         × (n * m ≤ length (now w))
-        × (m * m ≤ length (now gram)) ⌝ }
-    ensures { λ r. ⌜ Definition.foundOf n m r
+        × (m * m ≤ length (now gram))
+        × (n ≤ length (now x))
+        × (m ≤ length (now multipliers)) ⌝ }
+    ensures { λ r. ⌜ Definition.foundOf r (take n (now (x .exit))) (take m (now (multipliers .exit)))
         ≡ Definition.solveFactored (now (l .entry)) (system n m (now (k .entry)) (now (c .entry)) (now (e .entry)) (now (b .entry))) noise ⌝ }
 {
     let entries = n * m;
@@ -371,5 +374,7 @@ pub fn solve_factored(
         noise,
         &mut w[..entries],
         &mut gram[..square],
+        x,
+        multipliers,
     )
 }

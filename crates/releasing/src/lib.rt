@@ -3,6 +3,7 @@ use segments::Segments;
 use segments::Spot;
 use segments::State;
 ghost use mathlib.Core.Path.{_≡_};
+ghost use mathlib.Core.Bool.{true, cond};
 ghost use Prim.Native.Nat.{_≤_, _<_};
 ghost use lib.ListN.{length};
 ghost use Rattle.folds.specs.Best.{found, better};
@@ -115,8 +116,24 @@ fn faster_one(refused: bool, wrong: Descent, i: usize, best: Fastest) -> Fastest
     faster(best, i, rate, segment)
 }
 
-// The variable that enters, of the first n.
-fn entering(
+// Whether this one would lower the objective, or one before it.
+fn any_so_far(wrong: Descent, any: bool) -> bool
+    ensures { λ r. ⌜ r ≡ cond (Rule.isInto wrong) true any ⌝ }
+{
+    match wrong {
+        Descent::Into(_, _) => true,
+        Descent::Nowhere => any,
+    }
+}
+
+// Of those that would lower the objective: the one that enters, and whether there is one, refused or not.
+pub struct Wrong {
+    pub entering: Fastest,
+    pub any: bool,
+}
+
+// Of the first n, in one loop.
+fn wrong_ones(
     segments: [Segments; sizes::VARIABLES],
     state: [Spot; sizes::VARIABLES],
     fixed: &[bool],
@@ -125,7 +142,7 @@ fn entering(
     pushback: &[f64],
     n: usize,
     least: f64,
-) -> Fastest
+) -> Wrong
     requires { ⌜ (n ≤ Sizes.variables)
         × (n ≤ length (now fixed))
         × (n ≤ length (now refused))
@@ -133,53 +150,22 @@ fn entering(
         × (n ≤ length (now pushback))
         × AllCut n segments
         × AllPlaced n segments state ⌝ }
-    ensures { λ r. ⌜ r
-        ≡ Rule.entering n segments state (now (fixed .entry)) (now (refused .entry)) (now (gradient .entry)) (now (pushback .entry)) least ⌝ }
+    ensures { λ r. ⌜ (r .entering
+        ≡ Rule.entering n segments state (now (fixed .entry)) (now (refused .entry)) (now (gradient .entry)) (now (pushback .entry)) least)
+        × (r .any ≡ Rule.anyWrong n segments state (now (fixed .entry)) (now (gradient .entry)) (now (pushback .entry)) least) ⌝ }
 {
     let mut best = Fastest::Nothing;
+    let mut any = false;
     for i in 0..n {
         let nu = gradient[i] + pushback[i];
         let wrong = wrong_one(fixed[i], state[i], segments[i], nu, least);
         best = faster_one(refused[i], wrong, i, best);
+        any = any_so_far(wrong, any);
     }
-    best
-}
-
-fn is_into(wrong: Descent) -> bool
-    ensures { λ r. ⌜ r ≡ Rule.isInto wrong ⌝ }
-{
-    match wrong {
-        Descent::Into(_, _) => true,
-        Descent::Nowhere => false,
+    Wrong {
+        entering: best,
+        any: any,
     }
-}
-
-// Whether one of the first n would lower the objective, refused or not.
-fn any_wrong(
-    segments: [Segments; sizes::VARIABLES],
-    state: [Spot; sizes::VARIABLES],
-    fixed: &[bool],
-    gradient: &[f64],
-    pushback: &[f64],
-    n: usize,
-    least: f64,
-) -> bool
-    requires { ⌜ (n ≤ Sizes.variables)
-        × (n ≤ length (now fixed))
-        × (n ≤ length (now gradient))
-        × (n ≤ length (now pushback))
-        × AllCut n segments
-        × AllPlaced n segments state ⌝ }
-    ensures { λ r. ⌜ r ≡ Rule.anyWrong n segments state (now (fixed .entry)) (now (gradient .entry)) (now (pushback .entry)) least ⌝ }
-{
-    for i in 0..n {
-        let nu = gradient[i] + pushback[i];
-        let wrong = wrong_one(fixed[i], state[i], segments[i], nu, least);
-        if is_into(wrong) {
-            return true;
-        }
-    }
-    false
 }
 
 // What follows: a variable enters, free in a segment; the point is the answer; or it is not, and no progress can be made.
@@ -210,7 +196,7 @@ pub fn release(
         ≡ Rule.release n segments state (now (fixed .entry)) (now (refused .entry)) (now (gradient .entry)) (now (pushback .entry)) scale ⌝ }
 {
     let least = 1e-9 * scale;
-    let best = entering(
+    let wrong = wrong_ones(
         segments,
         state,
         fixed,
@@ -220,8 +206,9 @@ pub fn release(
         n,
         least,
     );
-    let Fastest::Found(_, i, segment) = best else {
-        if any_wrong(segments, state, fixed, gradient, pushback, n, least) {
+    let entering = wrong.entering;
+    let Fastest::Found(_, i, segment) = entering else {
+        if wrong.any {
             return Outcome::NotConverged;
         }
         return Outcome::Answer;

@@ -223,27 +223,20 @@ fn run_sequence(s: &[u8]) -> Replayed {
 }
 
 // The outcome byte is at a place.
-fn compare_solution(s: &[u8], at: usize, n: usize, m: usize, found: range_space::Found) -> Replayed
-    requires { ⌜ (n ≤ Sizes.originals) × (m ≤ Sizes.columns) ⌝ }
-{
+fn compare_solution(s: &[u8], at: usize, found: bool, x: &[f64], multipliers: &[f64]) -> Replayed {
     let place = replay::past(s, at, 1);
     let mut r = differing(0);
     if replay::byte(s, at) == 0 {
         r.solutions = 1;
-        if found.found {
-            let x = found.x;
-            let multipliers = found.multipliers;
-            r.differ = replay::compare_answer(s, place, &x[..n], &multipliers[..m]);
+        if found {
+            r.differ = replay::compare_answer(s, place, x, multipliers);
             return r;
         }
         r.differ = 1;
         return r;
     }
     r.unsolved = 1;
-    r.differ = std::num::wrapping_add_usize(
-        replay::one_if(found.found),
-        replay::one_if(place < s.len()),
-    );
+    r.differ = std::num::wrapping_add_usize(replay::one_if(found), replay::one_if(place < s.len()));
     r
 }
 
@@ -266,8 +259,23 @@ fn compare_system(
     }
     let mut w = [0.0; 768];
     let mut gram = [0.0; 576];
-    let found = range_space::solve_factored(l, k, c, e, b, n, m, noise, &mut w, &mut gram);
-    compare_solution(s, at, n, m, found)
+    let mut x = [0.0; ORIGINALS];
+    let mut multipliers = [0.0; sizes::COLUMNS];
+    let found = range_space::solve_factored(
+        l,
+        k,
+        c,
+        e,
+        b,
+        n,
+        m,
+        noise,
+        &mut w,
+        &mut gram,
+        &mut x,
+        &mut multipliers,
+    );
+    compare_solution(s, at, found, &x[..n], &multipliers[..m])
 }
 
 // A system whose counts don't go with its slices differs.

@@ -73,7 +73,8 @@ fn restored(
 {
     let v = n + r;
     let w = m + r;
-    let x = dense::div(&u[..v], scales, n);
+    let mut x = [0.0; sizes::VARIABLES];
+    vector::div(&u[..v], scales, n, &mut x);
     if feasible(&x[..n], e, b, columns, a, row_lower, row_upper, n, m, r) {
         let mut multipliers = [0.0; sizes::COLUMNS];
         vector::div(&lambda[..w], columns, w, &mut multipliers);
@@ -165,10 +166,15 @@ fn solve_scaled(
 {
     let v = n + r;
     let w = m + r;
-    let c_all = slacks::with_zeros(c, n);
-    let b_all = slacks::with_zeros(b, m);
-    let uc = dense::div(&c_all[..v], scales, v);
-    let ub = dense::div(&b_all[..w], columns, w);
+    // c and b with the slacks, whose entries are 0.
+    let mut c_all = [0.0; sizes::VARIABLES];
+    vector::copy(c, n, &mut c_all);
+    let mut b_all = [0.0; sizes::COLUMNS];
+    vector::copy(b, m, &mut b_all);
+    let mut uc = [0.0; sizes::VARIABLES];
+    vector::div(&c_all[..v], scales, v, &mut uc);
+    let mut ub = [0.0; sizes::COLUMNS];
+    vector::div(&b_all[..w], columns, w, &mut ub);
     let segments = slacks::all_segments(
         lower,
         upper,

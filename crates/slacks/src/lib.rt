@@ -3,11 +3,9 @@
 use segments::Segments;
 ghost use mathlib.Core.Path.{_≡_};
 ghost use Prim.Native.Nat.{_+_, _≤_, _<_, _*_};
-ghost use lib.ListN.{length, take, replicate};
+ghost use lib.ListN.{length, take};
 ghost use Rattle.folds.specs.Fold.{over};
 ghost use Rattle.sizes.specs.Sizes as Sizes;
-ghost use Rattle.arith.specs.Float.{f0};
-ghost use Rattle.vector.specs.Vector.{copy};
 ghost use Rattle.matrix.specs.Matrix as Matrix;
 ghost use Rattle.segments.specs.Segments.{Cut, AllCut};
 ghost use Rattle.slacks.specs.Slacks as Slacks;
@@ -108,16 +106,6 @@ pub fn with_slacks_e(e: &[f64], a: &[f64], n: usize, m: usize, r: usize, all: &m
     for j in 0..columns {
         e_column(e, a, n, m, r, j, all);
     }
-}
-
-// v's n entries, then zeros: c and b with the slacks.
-pub fn with_zeros(v: &[f64], n: usize) -> [f64; sizes::VARIABLES]
-    requires { ⌜ (n ≤ Sizes.variables) × (n ≤ length (now v)) ⌝ }
-    ensures { λ x. ⌜ x ≡ over (copy n (now (v .entry))) (replicate Sizes.variables f0) ⌝ }
-{
-    let mut all = [0.0; sizes::VARIABLES];
-    vector::copy(v, n, &mut all);
-    all
 }
 
 // The smaller of the scales, passing over an entry of 0.

@@ -20,14 +20,15 @@ move-along-requires c κs =
 
 block-of-requires : tie.Need-block-of-requires
 block-of-requires c κs =
-    let s = c .before .before .before .before .before .before .before .before .before .before in
+    let s = c .before .before .before .before .before .before .before .before .before .before .before .before in
     (s .pre .0 .below _ (s .pre .2), s .pre .0 .inside _ (s .pre .2))
 
 returns : tie.Need-returns
 unfolding moveAndBlock
 returns c =
-    let s = c .before .before .before .before .before .before .before .before .before .before .before in
-    rw (← c .before .before .before .move-along .ensures) (c .block-of .ensures _ (free-in _ (s .pre .0 .inside _ (s .pre .2) .free)))
+    let m = c .before .before .before .before .before in
+    let s = m .before .before .before .before .before .before .before .before in
+    rw (← m .move-along .ensures) (c .block-of .ensures _ (free-in _ (s .pre .0 .inside _ (s .pre .2) .free)))
 
 pub move-and-block-spec : {M : Type 1} → statement M
 move-and-block-spec =

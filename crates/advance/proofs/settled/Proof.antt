@@ -18,12 +18,12 @@ settle-requires c κs =
 returns : tie.Need-returns
 unfolding settled cleared pick
 returns c =
-    let e = c .before .before .before in
-    rw (← e .settle .ensures, c .before .if1 .taken, refused-length (e .before .before .before .before .before .before .before))
+    let e = c .before .before .before .before in
+    rw (← e .settle .ensures, c .if1 .taken, refused-length (e .before .before .before .before .before .before .before))
 
 returns-2 : tie.Need-returns-2
 unfolding settled cleared pick
-returns-2 c = rw (← c .before .before .settle .ensures, c .if1 .left)
+returns-2 c = rw (← c .before .before .before .before .settle .ensures, c .if1 .left)
 
 pub settled-spec : {M : Type 1} → statement M
 settled-spec = tie.close (tie.spec slice-aggregate-settle settle-requires returns returns-2)

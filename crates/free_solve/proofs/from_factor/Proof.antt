@@ -10,11 +10,13 @@ unfolding fromFactor pick
 from-factor-spec =
     tie.close
     (tie.spec
-    (λ c κs. let t = c .before .before in
-    let p = t .before .before .before .before .before .before .before .before .pre in
-    (p .0, p .1 .holds, p .1 .diagonal (t .if1 .taken), p .2, p .3))  -- solve-factored-requires
+    (λ c κs. let t = c .before .before .before .before in
+    let p = t .before .before .before .before .before .before .before .before .before .before .pre in
+    (p .0, p .1 .holds, p .1 .diagonal (t .if1 .taken), p .2, p .3, p .4, p .5))  -- solve-factored-requires
     (λ c. search kit)  -- same-length
     (λ c. search kit)  -- same-length-2
-    (λ c held. let s = c .before .before .before .before in
-    rw (some-listed held (s .before .before .before .if1 .taken)) (s .solve-factored .ensures))  -- returns
+    (λ c. search kit)  -- same-length-3
+    (λ c. search kit)  -- same-length-4
+    (λ c held. let s = c .before .before .before .before .before .before .before .before in
+    rw (some-listed held (s .before .before .before .before .before .if1 .taken)) (s .solve-factored .ensures))  -- returns
     (λ c held. rw (none-listed held (c .if1 .left)) (found-is _ _ _)))  -- returns-2

@@ -10,7 +10,7 @@ use Rattle.free_solve.proofs.solve_free.Statement.{statement}
 use Rattle.free_solve.proofs.solve_free.Tie as tie
 
 abbrev start : tie.After-updated → tie.Start
-start c = c .before .before .before .before .before .before .before .before .before .before .before .before
+start c = c .before .before .before .before .before .before .before .before .before .before .before .before .before .before
 
 abbrev updated : tie.After-solve-updated-arg2 → tie.After-updated
 updated c = c .before .before .before .before .before .before
@@ -29,7 +29,7 @@ listed c = listed-few (c .args .counts .originals) (c .args .solved .now) (c .pr
 
 solve-updated-requires : tie.Need-solve-updated-requires
 solve-updated-requires c κs =
-    let u = updated (c .before .before .before .before .before) in
+    let u = updated (c .before .before .before .before .before .before .before) in
     let s = start u in
     let p = s .pre in
     let a = p .0 in
@@ -46,12 +46,14 @@ solve-updated-requires c κs =
           (omega (arith, area (listed s) (listed s), a .l-holds, u .updated .kept .1 .1 .1 .1 .1 .0)),
       rw (u .updated .kept .1 .1 .1 .1 .1 .1 .0) (p .4),
       p .5,
+      p .6,
+      p .7,
     )
 
 returns : tie.Need-returns
 returns c =
-    let a = c .before .before .before .before in
-    let u = updated (a .before .before .before .before .before .before) in
+    let a = c .before .before .before .before .before .before .before .before in
+    let u = updated (a .before .before .before .before .before .before .before .before) in
     let s = start u in
     let g = u .updated .ensures in
     let e = a .solve-updated .ensures in
@@ -74,4 +76,6 @@ solve-free-spec =
     (λ c. search needs)  -- same-length
     (λ c. search needs)  -- same-length-2
     (λ c. search needs)  -- same-length-3
+    (λ c. search needs)  -- same-length-4
+    (λ c. search needs)  -- same-length-5
     returns)

@@ -1,7 +1,9 @@
-use Rattle.folds.specs.Kit.{sym, _∙_, arith, length, needs}
+use Rattle.folds.specs.Kit.{_≡_, sym, _∙_, arith, length, needs}
+use Rattle.folds.specs.Tab.{taken-over}
 use lib.Seq.{length-take-le}
 use Rattle.sizes.specs.Sizes as Sizes
 use Rattle.vector.specs.Laws.{take-zeros}
+use Rattle.slack_rows.specs.Laws.{length-withSlackSteps}
 use Rattle.ray.specs.Laws.{ray-found, ray-none}
 use Rattle.iterate.specs.Laws.{passed-singular}
 use Rattle.free_step.specs.FreeStep.{onRay}
@@ -12,31 +14,54 @@ use Rattle.free_step.proofs.on_ray.Tie as tie
 abbrev start : tie.After-direction → tie.Start
 start c = c .before .before .before .before .before .before .before .before
 
+direction-length : (c : tie.Start) → length (c .args .ray .direction) ≡ Sizes.variables
+direction-length c = search needs
+
+direction-holds : tie.Need-array-share-prefix-direction
+direction-holds c = let s = start c in omega (arith, direction-length s, split-few (s .pre .2), s .pre .2 .counted)
+
+slice-aggregate-slack-steps : tie.Need-slice-aggregate-slack-steps
+slice-aggregate-slack-steps c = sym (length-take-le _ _ (direction-holds (c .before)))
+
+none-holds : tie.Need-array-share-prefix-none
+none-holds c = omega (arith, start (c .before) .pre .2 .columns)
+
+slice-aggregate-slack-steps-2 : tie.Need-slice-aggregate-slack-steps-2
+slice-aggregate-slack-steps-2 c = sym (length-take-le _ _ (none-holds (c .before)))
+
 slack-steps-requires : tie.Need-slack-steps-requires
 slack-steps-requires c κs =
-    let s = start c .pre .2 in (s .within, s .slacks-fit, s .columns, s .solved-are, s .slacks-are, omega (arith, split-few s, s .counted))
+    let s = start (c .before .before .before) .pre .2 in (
+      s .within,
+      s .slacks-fit,
+      s .solved-are,
+      s .slacks-are,
+      omega (arith, slice-aggregate-slack-steps (c .before .before)),
+      omega (arith, slice-aggregate-slack-steps-2 (c .before)),
+      omega (arith, split-few s, s .counted),
+    )
 
 step-holds : tie.Need-array-share-prefix-step
-step-holds c = omega (arith, split-few (start (c .before) .pre .2))
+step-holds c = omega (arith, split-few (start (c .before .before .before .before .before) .pre .2))
 
 slice-aggregate-along : tie.Need-slice-aggregate-along
 slice-aggregate-along c = sym (length-take-le _ _ (step-holds (c .before)))
 
 along-requires : tie.Need-along-requires
 along-requires c κs =
-    let p = start (c .before .before) .pre in
+    let p = start (c .before .before .before .before .before .before) .pre in
     (p .2 .slacks-are .few, p .0, p .1 .placed, p .2 .free, omega (arith, slice-aggregate-along c), p .3)
 
 returns : tie.Need-returns
 unfolding onRay
 returns c =
-    let t = c .before .before in
-    let s = start (t .before) in (
+    let t = c .before .before .before in
+    let d = t .before .before .before .before in
+    let s = start d in (
       rw (
-        ray-found (length (s .args .solved .now)) (s .args .ray) (t .before .before .if1 .taken),
+        ray-found (length (s .args .solved .now)) (s .args .ray) (d .before .if1 .taken),
         ← take-zeros (s .args .counts .m) Sizes.columns (s .pre .2 .columns),
-        ← t .slack-steps .ensures,
-        s .pre .2 .counted,
+        ← taken-over _ _ (length-withSlackSteps _ _ _ _ _ _ _ _ ∙ s .pre .2 .counted) (t .slack-steps .ensures),
       )
           (c .along .ensures .0 (s .args .counts .m)),
       c .along .ensures .1,
@@ -56,6 +81,11 @@ pub on-ray-spec : {M : Type 1} → statement M
 on-ray-spec =
     tie.close
     (tie.spec
+    direction-holds  -- array-share-prefix-direction
+    slice-aggregate-slack-steps
+    none-holds  -- array-share-prefix-none
+    slice-aggregate-slack-steps-2
+    (λ c. search needs)  -- slice-aggregate-slack-steps-3
     slack-steps-requires
     step-holds  -- array-share-prefix-step
     slice-aggregate-along

@@ -1,4 +1,4 @@
-use Rattle.folds.specs.Kit.{_≡_, _≤_, sym, _∙_, arith, length, needs}
+use Rattle.folds.specs.Kit.{_≤_, sym, _∙_, arith, length, needs}
 use mathlib.Core.Path.{subst}
 use Rattle.folds.specs.Tab.{taken-over}
 use lib.Seq.{length-take-le}
@@ -15,29 +15,17 @@ use Rattle.full_step.proofs.stepped.Statement.{statement}
 use Rattle.full_step.proofs.stepped.Tie as tie
 
 abbrev start : tie.After-first-passed → tie.Start
-start c = c .before .before .before .before .before .before .before .before .before .before .before .before .before .before
-
-x-holds : (c : tie.Start) → c .args .counts .n ≤ length (c .args .iterate .board .x)
-x-holds c = let e : length (c .args .iterate .board .x) ≡ Sizes.variables = search needs in omega arith
+start c = c .before .before .before .before .before .before .before .before .before .before
 
 few : (c : tie.Start) → length (c .args .indices .now) ≤ Sizes.variables
 few c = omega (arith, listed-few (c .args .counts .n) (c .args .iterate .board .state) (c .pre .4), c .pre .0 .variables)
 
-slice-aggregate-step-tolerance : tie.Need-slice-aggregate-step-tolerance
-slice-aggregate-step-tolerance c =
-    sym (length-take-le _ _ (x-holds (c .before .before .before .before .before .before .before .before .before .before .before .before)))
-
-step-tolerance-requires : tie.Need-step-tolerance-requires
-step-tolerance-requires c κs =
-    let p = c .before .before .before .before .before .before .before .before .before .before .before .before .pre in
-    (p .6, omega (arith, slice-aggregate-step-tolerance c, p .0 .within))
-
 first-passed-requires : tie.Need-first-passed-requires
-first-passed-requires c κs = c .before .before .before .before .before .before .before .before .before .before .before .before .before .pre .5
+first-passed-requires c κs = c .before .before .before .before .before .before .before .before .before .pre .5
 
 settled-requires : tie.Need-settled-requires
 settled-requires c κs =
-    let s = start (c .before .before) in
+    let s = start (c .before .before .before) in
     let p = s .pre in (
       λ i h. omega (arith, listed-below (s .args .counts .n) (s .args .iterate .board .state) (p .4) i h, p .0 .variables),
       p .5 .d-holds,
@@ -47,7 +35,7 @@ settled-requires c κs =
 
 decided-requires : tie.Need-decided-requires
 decided-requires c κs =
-    let s = start (c .before .before .before) in
+    let s = start (c .before .before .before .before) in
     let a = s .args in
     let p = s .pre in (
       p .0,
@@ -61,10 +49,8 @@ decided-requires c κs =
 returns : tie.Need-returns
 unfolding stepped atBlocking
 returns c =
-    let t = c .before .before in
-    let b = t .before .before in (
-      rw (← b .before .step-tolerance .ensures, ← b .first-passed .ensures, t .enum-told .given .1, ← c .before .settled .ensures)
-          (c .decided .ensures .0),
+    let t = c .before .before .before in (
+      rw (← t .before .before .first-passed .ensures, t .enum-told .given .1, ← c .before .settled .ensures) (c .decided .ensures .0),
       c .decided .ensures .1,
     )
 
@@ -95,7 +81,7 @@ blocked-pass-requires c κs =
         upper-holds = p .5 .upper-holds;
       },
       passed-below (length (a .indices .now)) (a .x-free .now) (a .target .now) (a .lower .now) (a .upper .now) (v .0 .0) (v .0 .1 .0)
-          (v .0 .1 .1 .0) (b .before .step-tolerance .result) (sym (v .1) ∙ b .first-passed .ensures),
+          (v .0 .1 .1 .0) (a .tolerance) (sym (v .1) ∙ b .first-passed .ensures),
     )
 
 returns-2 : tie.Need-returns-2
@@ -108,7 +94,6 @@ returns-2 c =
     let a = s .args in
     let p = s .pre in (
       rw (
-        ← b .before .step-tolerance .ensures,
         ← b .first-passed .ensures,
         h .hit .given .1,
         ← taken-over _ _ (length-sub _ _ _) (d .sub .ensures),
@@ -121,9 +106,6 @@ pub stepped-spec : {M : Type 1} → statement M
 stepped-spec =
     tie.close
     (tie.spec
-    (λ c. x-holds (c .before .before .before .before .before .before .before .before .before .before .before))  -- array-share-prefix-x
-    slice-aggregate-step-tolerance
-    step-tolerance-requires
     first-passed-requires
     (λ c. search needs)  -- enum-known-hit
     (λ c. search needs)  -- enum-told

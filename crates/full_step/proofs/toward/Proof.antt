@@ -16,6 +16,9 @@ start c = c .before .before .before .before .before .before .before .before .bef
 abbrev selected : tie.After-target2 → tie.After-select
 selected c = c .before .before .before .before .before
 
+abbrev added : tie.After-step-tolerance → tie.After-target2
+added c = c .before .before .before
+
 x-holds : (c : tie.Start) → c .args .counts .n ≤ length (c .args .iterate .board .x)
 x-holds c = let e : length (c .args .iterate .board .x) ≡ Sizes.variables = search needs in omega arith
 
@@ -47,17 +50,31 @@ add-requires c κs =
     (omega (arith, slice-aggregate-add (c .before)), s .pre .6, omega (arith, few s))
 
 target-holds : tie.Need-array-share-prefix-target
-target-holds c = omega (arith, few (start (selected (c .before) .before)))
+target-holds c = omega (arith, few (start (selected c .before)))
+
+slice-aggregate-step-tolerance : tie.Need-slice-aggregate-step-tolerance
+slice-aggregate-step-tolerance c = sym (length-take-le _ _ (target-holds (c .before)))
+
+slice-aggregate-step-tolerance-2 : tie.Need-slice-aggregate-step-tolerance-2
+slice-aggregate-step-tolerance-2 c = sym (length-take-le _ _ (x-holds (start (selected (c .before .before) .before))))
+
+step-tolerance-requires : tie.Need-step-tolerance-requires
+step-tolerance-requires c κs =
+    let p = start (selected (c .before .before) .before) .pre in
+    (omega (arith, p .5, slice-aggregate-step-tolerance (c .before)), omega (arith, p .0 .within, slice-aggregate-step-tolerance-2 c))
+
+x-free-holds-2 : tie.Need-array-share-prefix-x-free-2
+x-free-holds-2 c = x-free-holds (added c .before .before .before .before)
 
 slice-aggregate-stepped : tie.Need-slice-aggregate-stepped
-slice-aggregate-stepped c = sym (length-take-le _ _ (x-free-holds (c .before .before .before .before .before)))
+slice-aggregate-stepped c = sym (length-take-le _ _ (x-free-holds-2 (c .before)))
 
 slice-aggregate-stepped-2 : tie.Need-slice-aggregate-stepped-2
-slice-aggregate-stepped-2 c = sym (length-take-le _ _ (target-holds (c .before)))
+slice-aggregate-stepped-2 c = sym (length-take-le _ _ (target-holds (added (c .before .before))))
 
 stepped-requires : tie.Need-stepped-requires
 stepped-requires c κs =
-    let s = start (selected (c .before .before) .before) in
+    let s = start (selected (added (c .before .before)) .before) in
     let a = s .args in
     let p = s .pre in (
       p .0,
@@ -67,21 +84,22 @@ stepped-requires c κs =
       p .4,
       listed-entries (a .counts .n) (a .iterate .board .state) (p .4) (a .segments) _ _ (p .7) (omega (arith, slice-aggregate-stepped (c .before)))
           (omega (arith, slice-aggregate-stepped-2 c)),
-      omega (arith, p .5, slice-aggregate-stepped-2 c),
     )
 
 returns : tie.Need-returns
 unfolding toward
 returns c =
     let t = c .before .before .before in
-    let x = selected t in
+    let a = added t in
+    let x = selected a in
     let p = start (x .before) .pre in (
       rw (
         ← p .7 .lower-is,
         ← p .7 .upper-is,
         ← p .4,
         ← taken-over _ _ (length-select _ _ _) (x .select .ensures),
-        ← taken-over _ _ (length-add _ _ _) (t .before .add .ensures),
+        ← taken-over _ _ (length-add _ _ _) (a .before .add .ensures),
+        ← t .step-tolerance .ensures,
       )
           (c .stepped .ensures .0),
       c .stepped .ensures .1,
@@ -99,9 +117,14 @@ toward-spec =
     slice-aggregate-add
     (λ c. search needs)  -- slice-aggregate-add-2
     add-requires
-    (λ c. x-free-holds (c .before .before .before .before))  -- array-share-prefix-x-free-2
-    slice-aggregate-stepped
     target-holds  -- array-share-prefix-target
+    slice-aggregate-step-tolerance
+    (λ c. x-holds (start (selected (c .before) .before)))  -- array-share-prefix-x-2
+    slice-aggregate-step-tolerance-2
+    step-tolerance-requires
+    x-free-holds-2  -- array-share-prefix-x-free-2
+    slice-aggregate-stepped
+    (λ c. target-holds (added (c .before)))  -- array-share-prefix-target-2
     slice-aggregate-stepped-2
     stepped-requires
     returns)

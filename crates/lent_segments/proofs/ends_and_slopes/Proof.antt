@@ -53,13 +53,14 @@ use denote.Triple.Spec.{Meets, tripleOf}
 use denote.Triple.Table.{entered, cited}
 use denote.Triple.Walked.{needs}
 use Rattle.walks.specs.Walks.{Walked, ends, met, states, owned-all, asks, answers}
+use Rattle.folds.specs.Fold.{over}
 use Rattle.sizes.specs.Sizes as Sizes
 use Rattle.segments.specs.Segments.{segmentsAt}
 use Rattle.segments.specs.declared.Spot.{Spot}
 use Rattle.segments.specs.declared.State.the-variants.{At as Held-at}
 use Rattle.segments.proofs.Spot as S
 use Rattle.segments.proofs.Spot.Laws as S′
-use Rattle.lent_segments.specs.Lent.{Listed, segmentIn, readOver}
+use Rattle.lent_segments.specs.Lent.{Listed, segmentIn, entries}
 use Rattle.lent_segments.specs.Laws.{read-none, read-turn, read-length}
 use Rattle.lent_segments.specs.declared.Segment.{Segment}
 use Rattle.lent_segments.proofs.Segment as O
@@ -194,7 +195,7 @@ module _ {M : Type 1} (𝓤 : URA M) (H : Heap 𝓤) (A : Atoms 𝓤) (W : Given
 
     -- what is written after t turns
     abbrev written : (Segment → Float) → RefT (List Float) → ℕ → List Float
-    written read x t = readOver read t (indices .now) (segments .now) state (x .now)
+    written read x t = over (entries read t (indices .now) (segments .now) state) (x .now)
 
     abbrev lowers : ℕ → List Float
     lowers = written the-lower lower
@@ -205,8 +206,11 @@ module _ {M : Type 1} (𝓤 : URA M) (H : Heap 𝓤) (A : Atoms 𝓤) (W : Given
     abbrev slopes : ℕ → List Float
     slopes = written the-slope slope
 
+    as-long : (read : Segment → Float) (x : RefT (List Float)) → n ≤ length (x .now) → (t : ℕ) → t ≤ n → length (written read x t) ≡ length (x .now)
+    as-long read x l t few = read-length read (indices .now) (segments .now) state (x .now) t (omega (arith, few, l))
+
     has : (read : Segment → Float) (x : RefT (List Float)) → n ≤ length (x .now) → (t : ℕ) → t < n → t < length (written read x t)
-    has read x l t less = omega (arith, less, l, read-length read (indices .now) (segments .now) state (x .now) t)
+    has read x l t less = omega (arith, less, l, as-long read x l t (omega (arith, less)))
 
     abbrev to-callee : ℕ → Callee .Ghost
     to-callee t =
@@ -323,7 +327,7 @@ module _ {M : Type 1} (𝓤 : URA M) (H : Heap 𝓤) (A : Atoms 𝓤) (W : Given
             assigns ! (of-opd ! (load ! (from ! (fld ! refl (stop !))) (look-in ! 34 (sub ! 0 refl (whole !)))))
             (from ! (hop ! (look ! 16 refl) (stop !))) (store ! 0 refl (tt, typed .0)) $
             float-put ! lower (lowers t) t (segment t .lower) (has the-lower lower (p .2) t less) (typed .0)
-            (read-turn the-lower (indices .now) (segments .now) state (lower .now) t) $
+            (read-turn the-lower (indices .now) (segments .now) state (lower .now) t (omega (arith, less, p .2))) $
             -- upper[t]
             assigns ! (bin ! (local ! 37 refl) (lit ! tt) fits) (from ! (stop !)) (store ! 27 refl (tt, fits)) $
             assigns ! (bin ! (load ! (from ! (fld ! refl (stop !))) (look-in ! 42 (sub ! 0 refl (whole !)))) (local ! 27 refl) tt) (from ! (stop !))
@@ -334,7 +338,7 @@ module _ {M : Type 1} (𝓤 : URA M) (H : Heap 𝓤) (A : Atoms 𝓤) (W : Given
             assigns ! (of-opd ! (load ! (from ! (fld ! refl (stop !))) (look-in ! 34 (sub ! 1 refl (whole !)))))
             (from ! (hop ! (look ! 14 refl) (stop !))) (store ! 0 refl (tt, typed .1 .0)) $
             float-put ! upper (uppers t) t (segment t .upper) (has the-upper upper (p .3) t less) (typed .1 .0)
-            (read-turn the-upper (indices .now) (segments .now) state (upper .now) t) $
+            (read-turn the-upper (indices .now) (segments .now) state (upper .now) t (omega (arith, less, p .3))) $
             -- slope[t]
             assigns ! (bin ! (local ! 37 refl) (lit ! tt) fits) (from ! (stop !)) (store ! 23 refl (tt, fits)) $
             assigns ! (bin ! (load ! (from ! (fld ! refl (stop !))) (look-in ! 40 (sub ! 0 refl (whole !)))) (local ! 23 refl) tt) (from ! (stop !))
@@ -345,7 +349,7 @@ module _ {M : Type 1} (𝓤 : URA M) (H : Heap 𝓤) (A : Atoms 𝓤) (W : Given
             assigns ! (of-opd ! (load ! (from ! (fld ! refl (stop !))) (look-in ! 34 (sub ! 2 refl (whole !)))))
             (from ! (hop ! (look ! 12 refl) (stop !))) (store ! 0 refl (tt, typed .1 .1 .0)) $
             float-put ! slope (slopes t) t (segment t .slope) (has the-slope slope (p .4) t less) (typed .1 .1 .0)
-            (read-turn the-slope (indices .now) (segments .now) state (slope .now) t) $
+            (read-turn the-slope (indices .now) (segments .now) state (slope .now) t (omega (arith, less, p .4))) $
             -- the next
             assigns-last ! (bin ! (local ! 37 refl) (lit ! tt) next-fits) (from ! (stop !)) (store ! 37 refl (tt, next-fits)) $ forget ! 35 refl $
             forget ! 33 refl $ forget ! 29 refl $ forget ! 27 refl $ forget ! 25 refl $ forget ! 23 refl $ forget ! 21 refl $ forget ! 19 refl $
@@ -355,16 +359,16 @@ module _ {M : Type 1} (𝓤 : URA M) (H : Heap 𝓤) (A : Atoms 𝓤) (W : Given
         -- the turn that leaves the loop: the slices are closed, and the locals freed
         leaves : (i : Upto) → Holds (not (ltb (i .0) n)) → Sq W (At i) (runs (𝓣 .C) (𝓣 .Λ) En turn (anyQ (Turned i)))
         unfolding afterTurn
-        leaves i over =
+        leaves i past =
             let t = i .0 in
-            let last : t ≡ n = le-antisymm (i .1) (nltb→le t n over) in
+            let last : t ≡ n = le-antisymm (i .1) (nltb→le t n past) in
             assigns ! (bin ! (local ! 37 refl) (local ! 31 refl) tt) (from ! (stop !)) (init ! 29 refl (tt, tt)) $
-            rewrite ! 29 (λ (b : Bool). ‵ (fat fullShare tyBool l₁₂ 0 (vbool b))) (is-false (ltb t n) over) refl $ leaves-loop ! (local ! 29 refl) $
+            rewrite ! 29 (λ (b : Bool). ‵ (fat fullShare tyBool l₁₂ 0 (vbool b))) (is-false (ltb t n) past) refl $ leaves-loop ! (local ! 29 refl) $
             exec ! (𝓣 .C) (𝓣 .Λ) En rest (atRet En (Mine .post mine)) $
             assigns ! (of-opd ! (unit-lit !)) (from ! (stop !)) (init ! 52 refl (tt, tt)) $ move ! (1 ∷ 2 ∷ []) $
-            closes ! tt lower (lowers t) (read-length the-lower (indices .now) (segments .now) state (lower .now) t) $ move ! (3 ∷ 4 ∷ []) $
-            closes ! tt upper (uppers t) (read-length the-upper (indices .now) (segments .now) state (upper .now) t) $ move ! (5 ∷ 6 ∷ []) $
-            closes ! tt slope (slopes t) (read-length the-slope (indices .now) (segments .now) state (slope .now) t) $ move ! (6 ∷ []) $
+            closes ! tt lower (lowers t) (as-long the-lower lower (p .2) t (i .1)) $ move ! (3 ∷ 4 ∷ []) $
+            closes ! tt upper (uppers t) (as-long the-upper upper (p .3) t (i .1)) $ move ! (5 ∷ 6 ∷ []) $
+            closes ! tt slope (slopes t) (as-long the-slope slope (p .4) t (i .1)) $ move ! (6 ∷ []) $
             spots-whole ! state (are .1 .0) l₇ $
             -- [_7; what is said of slope, its token; of upper; of lower; the records, their token; the numbers, theirs; _21; …; _7's end; … ; _0; …]
             returns ! (look ! 52 refl) $ forget ! 52 refl $ forget ! 50 refl $ forget ! 48 refl $ forget ! 46 refl $ forget ! 44 refl $
@@ -387,7 +391,7 @@ module _ {M : Type 1} (𝓤 : URA M) (H : Heap 𝓤) (A : Atoms 𝓤) (W : Given
             by ! (ends 𝓤 H A W this.ended (this.clauses 𝓤 H A at-mem run) mine vunit tt (tt, (tt, (tt, (lowers t, (uppers t, (slopes t, tt)))))))
 
         turns : (i : Upto) → Sq W (At i) (runs (𝓣 .C) (𝓣 .Λ) En turn (anyQ (Turned i)))
-        turns i = by-test (ltb (i .0) n) (λ held. more i (ltb→lt (i .0) n held)) (λ over. leaves i over)
+        turns i = by-test (ltb (i .0) n) (λ held. more i (ltb→lt (i .0) n held)) (λ past. leaves i past)
 
         looped : Sq W (At (0, omega arith)) (runs (𝓣 .C) (𝓣 .Λ) En (seq (block (loop turn)) rest) (atRet En (Mine .post mine)))
         looped = first ! $ blocks ! $ loops ! 𝓣 Nearer Nearer-wf At turns (0, omega arith)

@@ -1,11 +1,13 @@
-use Rattle.folds.specs.Kit.{_≡_, _≤_, refl, sym, _∙_, arith, length, needs}
+use Rattle.folds.specs.Kit.{_≡_, _≤_, _*_, refl, sym, _∙_, arith, length, needs}
 use native.Mathlib.Nat.{le-of-eq, le-trans}
 use mathlib.Core.List.{List}
 use lib.Ieee.{Float}
 use lib.Seq.{length-take-le}
+use Rattle.folds.specs.Cell.{area}
 use Rattle.sizes.specs.Sizes as Sizes
 use Rattle.factor_update.specs.Laws.{listed-few}
 use Rattle.free_list.specs.Laws.{free-few, listed, taken-entries, ends-taken}
+use Rattle.pass.specs.State.{made-beside}
 use Rattle.pass.specs.Laws.{free-from}
 use Rattle.pass.proofs.free_pass.Statement.{statement}
 use Rattle.pass.proofs.free_pass.Tie as tie
@@ -19,15 +21,17 @@ start c =
 abbrev ends-at : tie.After-gather → tie.After-ends-and-slopes
 ends-at c = c .before .before .before .before .before .before .before .before .before
 
--- where the gathering's memory is given back, and q_free and e_free are lent again
-abbrev gather-at : tie.After-solve-and-step-arg2 → tie.After-gather
-gather-at c = c .before .before .before .before .before .before .before .before
+abbrev gather-at : tie.After-multipliers → tie.After-gather
+gather-at c = c .before .before .before .before .before .before .before .before .before .before .before .before .before
 
-abbrev lent : tie.After-solve-and-step-arg5 → tie.After-solve-and-step-arg2
-lent c = c .before .before .before .before .before
+abbrev solve-at : tie.After-left → tie.After-solve-free
+solve-at c = c .before .before .before .before .before .before .before .before .before
 
-abbrev called : tie.After-slice-known11 → tie.After-solve-and-step
-called c = c .before .before .before .before .before .before
+abbrev gathered : tie.After-left → tie.After-gather
+gathered c = gather-at (solve-at c .before)
+
+abbrev lent : tie.After-upper3 → tie.After-left
+lent c = c .before .before .before .before .before .before
 
 -- ---- the lists that the ends leave
 abbrev lower-left : tie.After-ends-and-slopes → List Float
@@ -38,6 +42,13 @@ upper-left c = c .ends-and-slopes .last .1 .1 .1 .1 .0
 
 abbrev slope-left : tie.After-ends-and-slopes → List Float
 slope-left c = c .ends-and-slopes .last .1 .1 .1 .1 .1 .0
+
+-- ---- the step and the multipliers that the solve leaves
+abbrev delta-left : tie.After-solve-free → List Float
+delta-left c = c .solve-free .last .1 .1 .1 .1 .1 .1 .1 .1 .1 .1 .0
+
+abbrev multipliers-left : tie.After-solve-free → List Float
+multipliers-left c = c .solve-free .last .1 .1 .1 .1 .1 .1 .1 .1 .1 .1 .1 .0
 
 -- ---- what each array that is lent in part holds
 indices-few : (c : tie.Start) → length (c .args .indices .now) ≤ Sizes.variables
@@ -60,6 +71,42 @@ slope-holds c = rw (c .ends-and-slopes .kept .1 .1 .1 .1 .1 .0) (indices-few (st
 
 slope-fits : (c : tie.After-ends-and-slopes) → length (start (c .before) .args .solved .now) ≤ length (slope-left c)
 slope-fits c = le-trans (solved-fit (start (c .before))) (slope-holds c)
+
+-- ---- what the gathering leaves of the lent memory
+solved-few : (c : tie.Start) → length (c .args .solved .now) ≤ c .args .counts .originals
+solved-few c = listed-few _ _ (c .pre .5)
+
+square-fits : (c : tie.After-gather) →
+    length (start (ends-at c .before) .args .solved .now) * length (start (ends-at c .before) .args .solved .now)
+    ≤ length (c .gather .last .1 .1 .1 .1 .1 .1 .1 .1 .1 .1 .0)
+square-fits c =
+    let s = start (ends-at c .before) in
+    rw (c .gather .kept .1 .1 .1 .1 .1 .1 .1 .1 .1 .1 .0) (le-trans (area (solved-few s) (solved-few s)) (s .pre .6 .q-free))
+
+entries-few : (c : tie.After-gather) →
+    let s = start (ends-at c .before) in
+    length (s .args .solved .now) * c .gather .result .columns ≤ s .args .counts .originals * s .args .counts .m
+entries-few c = area (solved-few (start (ends-at c .before))) (c .gather .ensures .1 .kept-few)
+
+entries-fit : (c : tie.After-gather) →
+    length (start (ends-at c .before) .args .solved .now) * c .gather .result .columns
+    ≤ length (c .gather .last .1 .1 .1 .1 .1 .1 .1 .1 .1 .1 .1 .0)
+entries-fit c =
+    rw (c .gather .kept .1 .1 .1 .1 .1 .1 .1 .1 .1 .1 .1 .0) (le-trans (entries-few c) (start (ends-at c .before) .pre .6 .e-free))
+
+-- ---- what the solve is lent, and leaves
+solved-fits : (c : tie.Start) → length (c .args .solved .now) ≤ Sizes.originals
+solved-fits c = le-trans (solved-few c) (c .pre .0 .few)
+
+kept-fits : (c : tie.After-gather) → c .gather .result .columns ≤ Sizes.columns
+kept-fits c = le-trans (c .gather .ensures .1 .kept-few) (start (ends-at c .before) .pre .0 .columns)
+
+delta-fits : (c : tie.After-solve-free) → length (start (ends-at (gather-at (c .before)) .before) .args .solved .now) ≤ length (delta-left c)
+delta-fits c =
+    rw (c .solve-free .kept .1 .1 .1 .1 .1 .1 .1 .1 .1 .1 .0) (solved-fits (start (ends-at (gather-at (c .before)) .before)))
+
+multipliers-fit : (c : tie.After-solve-free) → gather-at (c .before) .gather .result .columns ≤ length (multipliers-left c)
+multipliers-fit c = rw (c .solve-free .kept .1 .1 .1 .1 .1 .1 .1 .1 .1 .1 .1 .0) (kept-fits (gather-at (c .before)))
 
 -- ---- the calls
 ends-and-slopes-requires : tie.Need-ends-and-slopes-requires
@@ -89,19 +136,40 @@ gather-requires c κs =
       p .6 .e-free,
     )
 
-slice-aggregate-solve-and-step : tie.Need-slice-aggregate-solve-and-step
-slice-aggregate-solve-and-step c = sym (length-take-le _ _ (lower-fits (ends-at (gather-at (c .before)))))
+solve-free-requires : tie.Need-solve-free-requires
+solve-free-requires c κs =
+    let g = gather-at c in
+    let p = start (ends-at g .before) .pre in
+    let few = g .gather .ensures .1 .kept-few in
+    let room = g .gather .kept .1 .1 .1 .1 .1 .1 .1 .1 .1 .0 in (
+      record {
+        block = record { few = p .0 .few; within = p .0 .within; q-holds = p .0 .q-holds };
+        rises = p .5;
+        good = p .7;
+        l-holds = p .8;
+        room-holds = rw room (p .6 .rows);
+      },
+      g .gather .ensures .1,
+      square-fits g,
+      entries-fit g,
+      rw room (le-trans (entries-few g) (p .6 .columns)),
+      le-trans (area few few) (p .6 .gram-room),
+      solved-fits (start (ends-at g .before)),
+      kept-fits g,
+    )
 
-slice-aggregate-solve-and-step-2 : tie.Need-slice-aggregate-solve-and-step-2
-slice-aggregate-solve-and-step-2 c = sym (length-take-le _ _ (upper-fits (ends-at (gather-at (c .before .before)))))
+slice-aggregate-step-3 : tie.Need-slice-aggregate-step-3
+slice-aggregate-step-3 c = sym (length-take-le _ _ (lower-fits (ends-at (gathered (c .before .before .before .before .before)))))
 
-solve-and-step-requires : tie.Need-solve-and-step-requires
-solve-and-step-requires c κs =
-    let g = gather-at (lent c) in
-    let k = g .gather .kept in
+slice-aggregate-step-4 : tie.Need-slice-aggregate-step-4
+slice-aggregate-step-4 c = sym (length-take-le _ _ (upper-fits (ends-at (gathered (lent c)))))
+
+step-requires : tie.Need-step-requires
+step-requires c κs =
+    let r = solve-at (lent c) in
+    let g = gathered (lent c) in
     let a = ends-at g in
-    let p = start (a .before) .pre in
-    let r = p .6 in (
+    let p = start (a .before) .pre in (
       record {
         within = p .0 .within;
         variables = p .0 .variables;
@@ -110,35 +178,35 @@ solve-and-step-requires c κs =
         c-holds = p .0 .c-holds;
         e-holds = p .0 .e-holds;
       },
-      p .0 .few,
       p .1,
       p .2,
       p .3,
       p .4,
       g .gather .ensures .1,
+      length-take-le _ _ (delta-fits r),
+      length-take-le _ _ (multipliers-fit r),
+      square-fits g,
+      entries-fit g,
       ends-taken _ _ _ _ _ (p .4 .free) (a .ends-and-slopes .ensures .0) (a .ends-and-slopes .ensures .1),
-      p .5,
-      record {
-        rows = rw (k .1 .1 .1 .1 .1 .1 .1 .1 .1 .0) (r .rows);
-        columns = rw (k .1 .1 .1 .1 .1 .1 .1 .1 .1 .0) (r .columns);
-        q-free = rw (k .1 .1 .1 .1 .1 .1 .1 .1 .1 .1 .0) (r .q-free);
-        e-free = rw (k .1 .1 .1 .1 .1 .1 .1 .1 .1 .1 .1 .0) (r .e-free);
-        gram-room = r .gram-room;
-      },
-      p .7,
-      p .8,
     )
+
+room-left : tie.Need-same-length
+room-left c =
+    let r = solve-at (lent (c .before)) in
+    r .solve-free .kept .1 .1 .1 .1 .1 .1 .1 .0 ∙ gather-at (r .before) .gather .kept .1 .1 .1 .1 .1 .1 .1 .1 .1 .0
 
 returns : tie.Need-returns
 returns c =
-    let w = called c in
-    let g = gather-at (lent (w .before)) in
+    let r = solve-at (lent (c .before)) .solve-free in
+    let g = gathered (lent (c .before)) in
     let a = ends-at g in
     let s = start (a .before) in
-    let e = w .solve-and-step .ensures in (
-      free-from _ _ _ _ _ _ _ _ _ _ _ _ _ _ _ _ (g .gather .ensures .0)
-          (rw (← s .pre .4 .free) (taken-entries _ _ _ _ _ _ _ (solved-fit s) (slope-holds a) (a .ends-and-slopes .ensures .2))) (e .0),
-      e .1,
+    let e = c .step .ensures in (
+      made-beside _ _ _ _
+          ∙ free-from _ _ _ _ _ _ _ _ _ _ _ _ _ _ _ _ (r .result) _ _ _ (g .gather .ensures .0)
+          (rw (← s .pre .4 .free) (taken-entries _ _ _ _ _ _ _ (solved-fit s) (slope-holds a) (a .ends-and-slopes .ensures .2)))
+          (r .ensures .0) (e .0),
+      (e .1, r .ensures .1),
     )
 
 pub free-pass-spec : {M : Type 1} → statement M
@@ -154,17 +222,21 @@ free-pass-spec =
     (λ c. slope-fits (c .before .before .before .before))  -- array-share-prefix-slope
     slice-aggregate-gather-2
     gather-requires
-    (λ c. lower-fits (ends-at (gather-at c)))  -- array-share-prefix-lower
-    slice-aggregate-solve-and-step
-    (λ c. upper-fits (ends-at (gather-at (c .before))))  -- array-share-prefix-upper
-    slice-aggregate-solve-and-step-2
-    solve-and-step-requires
-    (λ c.
-    let w = called c in
-    w .solve-and-step .kept .1 .1 .1 .1 .1 .1 .1 .1 .1 .1 .1 .1 .1 .1 .1 .1 .1 .0
-    ∙ gather-at (lent (w .before)) .gather .kept .1 .1 .1 .1 .1 .1 .1 .1 .1 .0)  -- room
-    (λ c. search needs)  -- q_free
-    (λ c. search needs)  -- e_free
-    (λ c. search needs)  -- gram
-    (λ c. search needs)  -- l
+    (λ c. refl)  -- slice-aggregate-solve-free
+    (λ c. refl)  -- slice-aggregate-solve-free-2
+    solve-free-requires
+    (λ c. delta-fits (solve-at c))  -- array-share-prefix-delta
+    (λ c. sym (length-take-le _ _ (delta-fits (solve-at (c .before)))))  -- slice-aggregate-step
+    (λ c. multipliers-fit (solve-at (c .before)))  -- array-share-prefix-multipliers
+    (λ c. sym (length-take-le _ _ (multipliers-fit (solve-at (c .before .before)))))  -- slice-aggregate-step-2
+    (λ c. lower-fits (ends-at (gathered (c .before .before .before .before))))  -- array-share-prefix-lower
+    slice-aggregate-step-3
+    (λ c. upper-fits (ends-at (gathered (c .before .before .before .before .before))))  -- array-share-prefix-upper
+    slice-aggregate-step-4
+    step-requires
+    room-left
+    (λ c. gathered (lent (c .before)) .gather .kept .1 .1 .1 .1 .1 .1 .1 .1 .1 .1 .0)  -- q_free
+    (λ c. gathered (lent (c .before)) .gather .kept .1 .1 .1 .1 .1 .1 .1 .1 .1 .1 .1 .0)  -- e_free
+    (λ c. solve-at (lent (c .before)) .solve-free .kept .1 .1 .1 .1 .1 .1 .1 .1 .0)  -- gram
+    (λ c. solve-at (lent (c .before)) .solve-free .kept .1 .1 .1 .1 .1 .1 .1 .1 .1 .0)  -- l
     returns)

@@ -1,10 +1,10 @@
 use Rattle.folds.specs.Kit.{needs, pick}
-use Rattle.range_space.specs.Factored.{judge, judged}
+use Rattle.range_space.specs.Factored.{foundOf, judge, judged}
 use Rattle.range_space.proofs.judged.Statement.{statement}
 use Rattle.range_space.proofs.judged.Tie as tie
 
 pub judged-spec : {M : Type 1} → statement M
-unfolding judge judged pick
+unfolding foundOf judge judged pick
 judged-spec =
     tie.close
     (tie.spec

@@ -13,11 +13,11 @@ by-length : (c : tie.After-lengths) → length (c .lengths .result) ≡ Sizes.co
 by-length c = search needs
 
 abbrev start : tie.After-lengths → tie.Start
-start c = c .before .before .before .before .before .before .before .before .before .before .before .before .before
+start c = c .before .before .before .before .before .before .before .before .before .before .before .before .before .before .before
 
-w-length : (c : tie.After-slice-known3) → let s = c .before .before .before .before .before .before .before .before .before .before .before in
+w-length : (c : tie.After-slice-known5) → let s = c .before .before .before .before .before .before .before .before .before .before .before .before .before in
     length (c .before .before .whiten .last .1 .1 .1 .1 .0) ≡ s .args .n * s .args .m
-w-length c = let s = c .before .before .before .before .before .before .before .before .before .before .before in omega (arith, s .pre .3)
+w-length c = let s = c .before .before .before .before .before .before .before .before .before .before .before .before .before in omega (arith, s .pre .3)
 
 -- W with its columns at unit length
 unit : (c : tie.After-divide-columns) → let s = start (c .before .before .before) in
@@ -39,51 +39,52 @@ slice-aggregate-solve-over c =
 
 solve-over-requires : tie.Need-solve-over-requires
 solve-over-requires c κs =
-    let p = start (c .before .before .before .before .before .before .before .before .before .before .before .before .before .before) .pre in (
+    let p = start (c .before .before .before .before .before .before .before .before .before .before .before .before .before .before .before .before) .pre in (
       record {
         few = p .0 .few;
         columns = p .0 .columns;
         l-holds = p .1;
         l-regular = p .2;
         w-holds = omega (arith, p .3);
-        by-holds = omega (arith, slice-aggregate-solve-over (c .before));
+        by-holds = omega (arith, slice-aggregate-solve-over (c .before .before .before));
         g-holds = omega (arith, p .4);
       },
       p .0,
+      p .5,
+      p .6,
     )
 
 returns : tie.Need-returns
 unfolding solveFactored withW withGram
 returns c =
-    let u = c .before .before .before .before .before .before .before .before .before .before .before .before in
+    let u = c .before .before .before .before .before .before .before .before .before .before .before .before .before .before .before .before .before .before in
     rw (
       ← u .before .before .before .before .before .before .before .whiten .ensures,
       ← u .before .before .before .lengths .ensures,
       ← unit u,
-      ← c .before .before .before .before .before .before .before .factor-gram .ensures,
-      c .before .before .before .before .if1 .taken,
-    ) (c .solve-over .ensures)
+      ← c .before .before .before .before .before .before .before .before .before .before .before .before .before .factor-gram .ensures,
+      c .before .before .before .before .before .before .before .before .before .before .if1 .taken,
+    ) (c .before .before .before .before .solve-over .ensures)
 
 returns-2 : tie.Need-returns-2
 unfolding foundOf pick solveFactored withW withGram
 returns-2 c =
-    let u = c .before .before .before .before .before .before .before .before .before in
+    let u = c .before .before .before .before .before .before .before .before in
     rw (
-      c .none .ensures,
       ← u .before .before .before .before .before .before .before .whiten .ensures,
       ← u .before .before .before .lengths .ensures,
       ← unit u,
-      ← c .before .before .before .before .factor-gram .ensures,
-      c .before .if1 .left,
+      ← c .before .before .before .factor-gram .ensures,
+      c .if1 .left,
     )
 
 pub solve-in-spec : {M : Type 1} → statement M
 solve-in-spec =
     tie.close
     (tie.spec
-    (λ c κs. let p = c .before .before .before .before .before .before .before .before .pre in
+    (λ c κs. let p = c .before .before .before .before .before .before .before .before .before .before .pre in
     (p .0 .few, p .0 .columns, p .1, p .2, p .0 .e-holds, p .3))  -- whiten-requires
-    (λ c κs. let p = c .before .before .before .before .before .before .before .before .before .before .before .before .pre in
+    (λ c κs. let p = c .before .before .before .before .before .before .before .before .before .before .before .before .before .before .pre in
     (p .0 .columns, omega (arith, p .3)))  -- lengths-requires
     (λ c. omega (arith, start (c .before) .pre .0 .columns, by-length (c .before)))  -- array-share-prefix-by
     slice-aggregate-divide-columns  -- slice-aggregate-divide-columns
@@ -95,8 +96,9 @@ solve-in-spec =
     solve-over-requires  -- solve-over-requires
     (λ c. search needs)  -- same-length
     (λ c. search needs)  -- same-length-2
-    returns  -- returns
-    (λ c κs. search needs)  -- none-requires
     (λ c. search needs)  -- same-length-3
     (λ c. search needs)  -- same-length-4
+    returns  -- returns
+    (λ c. search needs)  -- same-length-5
+    (λ c. search needs)  -- same-length-6
     returns-2)  -- returns-2

@@ -1,11 +1,11 @@
 use Rattle.folds.specs.Kit.{sym, arith, needs}
 use lib.Seq.{length-take-le}
-use Rattle.range_space.specs.Factored.{foundOf, refined}
+use Rattle.range_space.specs.Factored.{refined}
 use Rattle.range_space.proofs.solve_over.Statement.{statement}
 use Rattle.range_space.proofs.solve_over.Tie as tie
 
 abbrev start : tie.After-solve → tie.Start
-start c = c .before .before .before .before .before .before .before .before .before .before .before
+start c = c .before .before .before .before .before .before .before .before .before .before .before .before .before
 
 abbrev first : tie.After-refine → tie.After-solve
 first c = c .before .before .before .before .before .before .before
@@ -23,23 +23,23 @@ refine-requires c κs =
       p .1,
       omega (arith, slice-aggregate-refine (c .before .before .before)),
       omega (arith, slice-aggregate-refine-2 (c .before .before)),
-      omega (arith, p .0 .few),
-      p .0 .columns,
+      p .2,
+      p .3,
     )
 
 slice-aggregate-judged : tie.Need-slice-aggregate-judged
-slice-aggregate-judged c = sym (length-take-le _ _ (omega (arith, start (first (c .before .before .before)) .pre .0 .few)))
+slice-aggregate-judged c = sym (length-take-le _ _ (omega (arith, start (first (c .before .before .before .before .before)) .pre .2)))
 
 slice-aggregate-judged-2 : tie.Need-slice-aggregate-judged-2
-slice-aggregate-judged-2 c = sym (length-take-le _ _ (omega (arith, start (first (c .before .before .before .before)) .pre .0 .columns)))
+slice-aggregate-judged-2 c = sym (length-take-le _ _ (omega (arith, start (first (c .before .before .before .before .before .before)) .pre .3)))
 
 judged-requires : tie.Need-judged-requires
 judged-requires c κs =
-    let p = start (first (c .before .before .before .before)) .pre in
+    let p = start (first (c .before .before .before .before .before .before)) .pre in
     (p .1, omega (arith, slice-aggregate-judged (c .before)), omega (arith, slice-aggregate-judged-2 c))
 
 pub solve-over-spec : {M : Type 1} → statement M
-unfolding foundOf refined
+unfolding refined
 solve-over-spec =
     tie.close
     (tie.spec
@@ -50,12 +50,13 @@ solve-over-spec =
     slice-aggregate-refine
     (λ c. search needs)  -- array-share-prefix-multipliers0
     slice-aggregate-refine-2
-    (λ c. search needs)  -- slice-aggregate-refine-3
-    (λ c. search needs)  -- slice-aggregate-refine-4
     refine-requires
-    (λ c. omega (arith, start (first (c .before .before)) .pre .0 .few))  -- array-share-prefix-x
+    (λ c. omega (arith, start (first (c .before .before .before .before)) .pre .2))  -- slice-reshare-prefix-judged
     slice-aggregate-judged
-    (λ c. omega (arith, start (first (c .before .before .before)) .pre .0 .columns))  -- array-share-prefix-multipliers
+    (λ c. omega (arith, start (first (c .before .before .before .before .before)) .pre .3))  -- slice-reshare-prefix-judged-2
     slice-aggregate-judged-2
     judged-requires
-    (λ c. let r = c .before .before .before .before .before in rw (← first r .solve .ensures, ← r .refine .ensures) (c .judged .ensures)))  -- returns
+    (λ c. search needs)  -- same-length
+    (λ c. search needs)  -- same-length-2
+    (λ c. let r = c .before .before .before .before .before .before .before in
+    rw (← first r .solve .ensures, ← r .refine .ensures) (c .judged .ensures)))  -- returns
