@@ -45,7 +45,7 @@ extern "C" {
  * the gap in the file.
  *
  * Refusals, in this order: the block's, 1 to 7; 8; the engine's, 11, 12 or 14 (13 belongs to its other calls); 14 where a weight of the engine is not
- * finite or the written times break one of those bounds; 15. On a refusal the slice and *written keep their values. Stack: 282 KB. */
+ * finite or the written times break one of those bounds; 15. On a refusal the slice and *written keep their values. Stack: 281 KB. */
 uint32_t places_place(const uint8_t *block, size_t block_len,
                       uint8_t *answer, size_t answer_len,
                       uint64_t *written);
@@ -95,7 +95,7 @@ uint32_t places_solve_kkt(const double *k, size_t k_len,
  * is refused a step as places_solve_kkt refuses an answer, or finds no direction to descend in, or where the x at the end misses an equation or a
  * row's limit; 13 where the objective falls without end; 14 where the passes run out, where all variables are held at a point where all were freed
  * before, or where what would lower the objective can't leave its bound. Whatever is not 0 leaves x, multipliers and *passes as they were.
- * Stack: 213 KB. */
+ * Stack: 212 KB. */
 uint32_t places_solve_bounded(const double *q, size_t q_len,
                               const double *c, size_t c_len,
                               const double *e, size_t e_len,
@@ -112,7 +112,7 @@ uint32_t places_solve_bounded(const double *q, size_t q_len,
                               uint64_t *passes);
 
 /* The same with a kink in the cost of each variable: slopes[i] * |x[i] - at[i]| is added to what is minimized, and a variable may be held at its
- * kink as at a bound. at and slopes have n elements; a slope that is not above 0 adds nothing. Stack: 213 KB. */
+ * kink as at a bound. at and slopes have n elements; a slope that is not above 0 adds nothing. Stack: 212 KB. */
 uint32_t places_solve_piecewise(const double *q, size_t q_len,
                                 const double *c, size_t c_len,
                                 const double *e, size_t e_len,
@@ -136,7 +136,7 @@ uint32_t places_solve_piecewise(const double *q, size_t q_len,
  *
  * Refusals: 9 and 10 as before; 11, 12 and 14 as the solve at raise 0, or one between a raise that keeps the cap and one that doesn't, is refused;
  * 14 also where a larger raise is refused before one keeps the cap, or none does. It never answers 13: where the objective falls without end, the
- * turnover is infinite. Whatever is not 0 leaves x, multipliers, *passes and *raise as they were. Stack: 227 KB. */
+ * turnover is infinite. Whatever is not 0 leaves x, multipliers, *passes and *raise as they were. Stack: 226 KB. */
 uint32_t places_solve_turnover_capped(const double *q, size_t q_len,
                                       const double *c, size_t c_len,
                                       const double *e, size_t e_len,

@@ -7,7 +7,7 @@ ghost use lib.ListN.{length};
 ghost use Rattle.sizes.specs.Sizes as Sizes;
 ghost use Rattle.segments.specs.Segments.{AllCut};
 ghost use Rattle.iterate.specs.Problem.{problem, Shaped, Room};
-ghost use Rattle.iterate.specs.Iterate.{Kept};
+ghost use Rattle.iterate.specs.Iterate.{Consistent};
 ghost use Rattle.active.specs.Minimized.{minimizedOf};
 ghost use Rattle.active.specs.Active as Definition;
 use factoring::Factoring;
@@ -103,7 +103,7 @@ pub fn passes(
 ) -> Minimum
     requires { ⌜ Shaped (counts .originals) (counts .n) (counts .m) (now q) (now c) (now e) (now b)
         × AllCut (counts .n) segments
-        × Kept (counts .n) segments iterate
+        × Consistent (counts .n) segments iterate
         × (length (now fixed) ≡ counts .n)
         × Room (counts .originals) (counts .n) (counts .m) (now room) (now «q_free») (now «e_free») (now gram)
         × (counts .originals * counts .originals ≤ length (now l)) ⌝ }

@@ -27,7 +27,7 @@ use Rattle.stepping.specs.Stepping.{moveAlong, settle, samePoint}
 use Rattle.releasing.specs.Release as Releasing
 use Rattle.releasing.specs.declared.Outcome.{Outcome}
 use Rattle.releasing.specs.declared.Outcome.the-variants.{Enter, Answer, NotConverged}
-use Rattle.iterate.specs.Iterate.{Result, optimal, notConverged, passedOf, Kept}
+use Rattle.iterate.specs.Iterate.{Result, optimal, notConverged, passedOf, Consistent}
 use Rattle.iterate.specs.declared.Iterate.{Iterate}
 use Rattle.iterate.specs.declared.Passed.{Passed}
 
@@ -94,7 +94,7 @@ moveAndBlock segments indices xFree direction lower upper step k side released b
 -- the variables, as many as there are, stay placed
 abbrev pub Keeps : (indices : List ℕ) (segments : List Segments) → Iterate → (r : Passed) → Type 0
 Keeps indices segments i r =
-    (n : ℕ) → Below (length indices) indices n → AllPlaced n segments (i .board .state) → Kept n segments (r .iterate)
+    (n : ℕ) → Below (length indices) indices n → AllPlaced n segments (i .board .state) → Consistent n segments (r .iterate)
 
 -- `released = None; continue;`
 unfoldable pub blockedPass : Iterate → Board → Pass Iterate Result

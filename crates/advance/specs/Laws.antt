@@ -24,7 +24,7 @@ use Rattle.folds.specs.Fold.{Out, out}
 use Rattle.stepping.specs.Stepping.{moveAlong, settle}
 use Rattle.releasing.specs.Laws.{entered as enters}
 use Rattle.releasing.specs.declared.Outcome.the-variants.{Enter}
-use Rattle.iterate.specs.Iterate.{Kept}
+use Rattle.iterate.specs.Iterate.{Consistent}
 use Rattle.iterate.specs.declared.Iterate.{Iterate}
 use Rattle.advance.specs.Advance.{freeEverything, withBoard, moveAndBlock, cleared, settled, gradient, scale, release, entered}
 
@@ -74,12 +74,12 @@ unfolding entered
 entered-placed n segments i segment board l h placed = set-placed n segments (board .state) i (Free segment) l h placed
 
 -- ---- what every pass keeps
-pub board-kept : (n : ℕ) (segments : List Segments) (i : Iterate) (board : Board) (released : Released) → AllPlaced n segments (board .state) →
-    Kept n segments (withBoard i board released)
+pub board-consistent : (n : ℕ) (segments : List Segments) (i : Iterate) (board : Board) (released : Released) → AllPlaced n segments (board .state) →
+    Consistent n segments (withBoard i board released)
 unfolding withBoard
-board-kept n segments i board released placed = record { placed = placed }
+board-consistent n segments i board released placed = record { placed = placed }
 
-pub everything-kept : (n : ℕ) (segments : List Segments) (fixed : List Bool) (i : Iterate) → AllCut n segments → Kept n segments i →
-    Kept n segments (freeEverything n segments fixed i)
+pub everything-consistent : (n : ℕ) (segments : List Segments) (fixed : List Bool) (i : Iterate) → AllCut n segments → Consistent n segments i →
+    Consistent n segments (freeEverything n segments fixed i)
 unfolding freeEverything
-everything-kept n segments fixed i cut kept = record { placed = free-all-placed n segments fixed (i .board .state) cut (kept .placed) }
+everything-consistent n segments fixed i cut kept = record { placed = free-all-placed n segments fixed (i .board .state) cut (kept .placed) }

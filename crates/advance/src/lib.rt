@@ -21,7 +21,7 @@ ghost use Rattle.vector.specs.Vector.{Below};
 ghost use Rattle.segments.specs.Segments.{AllCut, AllPlaced};
 ghost use Rattle.free_list.specs.FreeList.{Listed};
 ghost use Rattle.blocking.specs.Blocking.{Entries};
-ghost use Rattle.iterate.specs.Iterate.{passedOf, Kept};
+ghost use Rattle.iterate.specs.Iterate.{passedOf, Consistent};
 ghost use Rattle.advance.specs.Advance as Advance;
 ghost use Rattle.advance.specs.Advance.{Shape};
 
@@ -87,9 +87,9 @@ pub fn without_free(
         × (n ≤ Sizes.variables)
         × (n ≤ length (now fixed))
         × AllCut n segments
-        × Kept n segments iterate ⌝ }
+        × Consistent n segments iterate ⌝ }
     ensures { λ r. ⌜ Advance.WithoutFree originals n segments (now (fixed .entry)) iterate r ⌝ }
-    ensures { λ r. ⌜ Kept n segments (r .iterate) ⌝ }
+    ensures { λ r. ⌜ Consistent n segments (r .iterate) ⌝ }
 {
     if all_true(fixed, originals) {
         return iterate::ended(Ending::Optimal, iterate);
@@ -321,13 +321,13 @@ pub fn decided(
     requires { ⌜ Shape (counts .originals) (counts .n) (counts .m) (now q) (now c) (now e)
         × AllCut (counts .n) segments
         × AllPlaced (counts .n) segments (board .state)
-        × Kept (counts .n) segments iterate
+        × Consistent (counts .n) segments iterate
         × (counts .n ≤ length (now fixed)) ⌝ }
     ensures { λ r. ⌜ passedOf (counts .n) (counts .m) r
         ≡ Advance.decided (counts .n) iterate board (take (counts .m) multipliers)
         (Advance.release (counts .originals) (counts .n) (counts .m) (now (q .entry)) (now (c .entry)) (now (e .entry)) segments
         (now (fixed .entry)) (magnitudes .q) (magnitudes .linear) (take (counts .m) multipliers) board) ⌝ }
-    ensures { λ r. ⌜ Kept (counts .n) segments (r .iterate) ⌝ }
+    ensures { λ r. ⌜ Consistent (counts .n) segments (r .iterate) ⌝ }
 {
     let m = counts.m;
     let released = iterate.released;

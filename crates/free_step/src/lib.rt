@@ -10,7 +10,7 @@ ghost use Rattle.free_list.specs.FreeList.{Ends};
 ghost use Rattle.slack_rows.specs.SlackRows.{Rows, Solved, withSlackSteps};
 ghost use Rattle.ray.specs.Ray.{rayOf};
 ghost use Rattle.iterate.specs.Problem.{firstSlackColumn};
-ghost use Rattle.iterate.specs.Iterate.{passedOf, Kept};
+ghost use Rattle.iterate.specs.Iterate.{passedOf, Consistent};
 ghost use Rattle.free_problem.specs.FreeProblem.{gatheredOf, Lists};
 ghost use Rattle.advance.specs.Advance.{Shape};
 ghost use Rattle.free_step.specs.FreeStep as FreeStep;
@@ -87,7 +87,7 @@ fn to_minimum(
 ) -> Passed
     requires { ⌜ Shape (counts .originals) (counts .n) (counts .m) (now q) (now c) (now e)
         × AllCut (counts .n) segments
-        × Kept (counts .n) segments iterate
+        × Consistent (counts .n) segments iterate
         × (counts .n ≤ length (now fixed))
         × Split (counts .originals) (counts .n) (counts .m) (now e) (iterate .board .state) (now indices) (now solved) (now slacks)
         × Lists (length (now solved)) (counts .m) free
@@ -98,7 +98,7 @@ fn to_minimum(
         ≡ FreeStep.toMinimum (counts .originals) (counts .n) (counts .m) (now (q .entry)) (now (c .entry)) (now (e .entry)) segments
         (now (fixed .entry)) (magnitudes .q) (magnitudes .linear) (now (solved .entry)) (now (slacks .entry))
         (take (free .columns) (free .kept)) (take (counts .m) (free .residuals)) (now (delta .entry)) (now (multipliers .entry)) iterate ⌝ }
-    ensures { λ r. ⌜ Kept (counts .n) segments (r .iterate) ⌝ }
+    ensures { λ r. ⌜ Consistent (counts .n) segments (r .iterate) ⌝ }
 {
     let k = solved.len();
     let m = counts.m;
@@ -153,13 +153,13 @@ fn on_ray(
     upper: &[f64],
 ) -> Passed
     requires { ⌜ AllCut (counts .n) segments
-        × Kept (counts .n) segments iterate
+        × Consistent (counts .n) segments iterate
         × Split (counts .originals) (counts .n) (counts .m) (now e) (iterate .board .state) (now indices) (now solved) (now slacks)
         × Ends (counts .n) segments (iterate .board .state) (now lower) (now upper) ⌝ }
     ensures { λ r. ⌜ passedOf (counts .n) (counts .m) r
         ≡ FreeStep.onRay (counts .originals) (counts .n) (counts .m) (now (e .entry)) segments (now (solved .entry)) (now (slacks .entry)) iterate
         (rayOf (length (now (solved .entry))) ray) ⌝ }
-    ensures { λ r. ⌜ Kept (counts .n) segments (r .iterate) ⌝ }
+    ensures { λ r. ⌜ Consistent (counts .n) segments (r .iterate) ⌝ }
 {
     if ray.found {
         let k = solved.len();
@@ -199,7 +199,7 @@ fn descend(
     upper: &[f64],
 ) -> Passed
     requires { ⌜ AllCut (counts .n) segments
-        × Kept (counts .n) segments iterate
+        × Consistent (counts .n) segments iterate
         × Split (counts .originals) (counts .n) (counts .m) (now e) (iterate .board .state) (now indices) (now solved) (now slacks)
         × Lists (length (now solved)) (counts .m) free
         × (length (now solved) * length (now solved) ≤ length (now «q_free»))
@@ -208,7 +208,7 @@ fn descend(
     ensures { λ r. ⌜ passedOf (counts .n) (counts .m) r
         ≡ FreeStep.descend (counts .originals) (counts .n) (counts .m) (now (e .entry)) segments (now (solved .entry)) (now (slacks .entry))
         (gatheredOf (length (now (solved .entry))) (counts .m) free (now («q_free» .entry)) (now («e_free» .entry))) iterate ⌝ }
-    ensures { λ r. ⌜ Kept (counts .n) segments (r .iterate) ⌝ }
+    ensures { λ r. ⌜ Consistent (counts .n) segments (r .iterate) ⌝ }
 {
     let k = solved.len();
     let columns = free.columns;
@@ -264,7 +264,7 @@ pub fn step(
 ) -> Passed
     requires { ⌜ Shape (counts .originals) (counts .n) (counts .m) (now q) (now c) (now e)
         × AllCut (counts .n) segments
-        × Kept (counts .n) segments iterate
+        × Consistent (counts .n) segments iterate
         × (counts .n ≤ length (now fixed))
         × Split (counts .originals) (counts .n) (counts .m) (now e) (iterate .board .state) (now indices) (now solved) (now slacks)
         × Lists (length (now solved)) (counts .m) free
@@ -278,7 +278,7 @@ pub fn step(
         (now (fixed .entry)) (magnitudes .q) (magnitudes .linear) (now (solved .entry)) (now (slacks .entry))
         (gatheredOf (length (now (solved .entry))) (counts .m) free (now («q_free» .entry)) (now («e_free» .entry))) iterate
         (answer verdict (now (delta .entry)) (now (multipliers .entry))) ⌝ }
-    ensures { λ r. ⌜ Kept (counts .n) segments (r .iterate) ⌝ }
+    ensures { λ r. ⌜ Consistent (counts .n) segments (r .iterate) ⌝ }
 {
     match verdict {
         KktVerdict::Solved => to_minimum(

@@ -14,7 +14,7 @@ ghost use Rattle.sizes.specs.Sizes as Sizes;
 ghost use Rattle.segments.specs.Segments.{AllCut, AllPlaced};
 ghost use Rattle.free_list.specs.FreeList.{Ends, Listed, freeIndices};
 ghost use Rattle.blocking.specs.Blocking.{Entries};
-ghost use Rattle.iterate.specs.Iterate.{passedOf, Kept};
+ghost use Rattle.iterate.specs.Iterate.{passedOf, Consistent};
 ghost use Rattle.advance.specs.Advance.{Shape, Gives, Leaves, Keeps};
 ghost use Rattle.full_step.specs.FullStep as FullStep;
 
@@ -38,7 +38,7 @@ fn stepped(
 ) -> Passed
     requires { ⌜ Shape (counts .originals) (counts .n) (counts .m) (now q) (now c) (now e)
         × AllCut (counts .n) segments
-        × Kept (counts .n) segments iterate
+        × Consistent (counts .n) segments iterate
         × (counts .n ≤ length (now fixed))
         × (now indices ≡ freeIndices (counts .n) (iterate .board .state))
         × Entries (length (now indices)) (now «x_free») (now target) (now lower) (now upper) ⌝ }
@@ -46,7 +46,7 @@ fn stepped(
         ≡ FullStep.stepped (counts .originals) (counts .n) (counts .m) (now (q .entry)) (now (c .entry)) (now (e .entry)) segments
         (now (fixed .entry)) (magnitudes .q) (magnitudes .linear) (now (indices .entry)) tolerance (now («x_free» .entry)) (now (target .entry))
         (now (lower .entry)) (now (upper .entry)) (take (counts .m) multipliers) iterate ⌝ }
-    ensures { λ r. ⌜ Kept (counts .n) segments (r .iterate) ⌝ }
+    ensures { λ r. ⌜ Consistent (counts .n) segments (r .iterate) ⌝ }
 {
     let count = indices.len();
     let hit = blocking::first_passed(x_free, target, lower, upper, count, tolerance);
@@ -136,7 +136,7 @@ pub fn toward(
 ) -> Passed
     requires { ⌜ Shape (counts .originals) (counts .n) (counts .m) (now q) (now c) (now e)
         × AllCut (counts .n) segments
-        × Kept (counts .n) segments iterate
+        × Consistent (counts .n) segments iterate
         × (counts .n ≤ length (now fixed))
         × (now indices ≡ freeIndices (counts .n) (iterate .board .state))
         × (solved ≤ length (now indices))
@@ -145,7 +145,7 @@ pub fn toward(
     ensures { λ r. ⌜ passedOf (counts .n) (counts .m) r
         ≡ FullStep.toward (counts .originals) (counts .n) (counts .m) (now (q .entry)) (now (c .entry)) (now (e .entry)) segments
         (now (fixed .entry)) (magnitudes .q) (magnitudes .linear) solved (now (step .entry)) (take (counts .m) multipliers) iterate ⌝ }
-    ensures { λ r. ⌜ Kept (counts .n) segments (r .iterate) ⌝ }
+    ensures { λ r. ⌜ Consistent (counts .n) segments (r .iterate) ⌝ }
 {
     let n = counts.n;
     let board = iterate.board;
@@ -192,7 +192,7 @@ pub fn along(
         × (length (now indices) ≤ length (now direction))
         × Ends n segments (iterate .board .state) (now lower) (now upper) ⌝ }
     ensures { λ r. ⌜ Gives n r (FullStep.along n segments (now (direction .entry)) iterate) ⌝ }
-    ensures { λ r. ⌜ Kept n segments (r .iterate) ⌝ }
+    ensures { λ r. ⌜ Consistent n segments (r .iterate) ⌝ }
 {
     let board = iterate.board;
     let count = indices.len();

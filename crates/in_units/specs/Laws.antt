@@ -12,16 +12,16 @@ use Rattle.segments.specs.Start.{allFixed, slopeAmax}
 use Rattle.segments.specs.Laws.{all-placed}
 use Rattle.segments.specs.declared.Segments.{Segments}
 use Rattle.iterate.specs.Problem.{problem}
-use Rattle.iterate.specs.Iterate.{Kept}
+use Rattle.iterate.specs.Iterate.{Consistent}
 use Rattle.iterate.specs.declared.Iterate.{Iterate}
 use Rattle.active.specs.Minimized.{Minimized}
 use Rattle.active.specs.Active.{budget, passes}
 use Rattle.active.specs.Laws.{Within, passes-within}
 use Rattle.in_units.specs.InUnits.{started, solvePiecewiseInUnits}
 
-pub started-kept : (n : ℕ) (segments : List Segments) (start : List Float) → AllCut n segments → Kept n segments (started n segments start)
+pub started-consistent : (n : ℕ) (segments : List Segments) (start : List Float) → AllCut n segments → Consistent n segments (started n segments start)
 unfolding started
-started-kept n segments start cut = record { placed = all-placed n segments _ _ _ cut refl }
+started-consistent n segments start cut = record { placed = all-placed n segments _ _ _ cut refl }
 
 -- what the calls leave, put together
 pub units-from : {r : Minimized} {fixed : List Bool} {qAmax linear cAmax slopes : Float} {i : Iterate} {l : List Float}

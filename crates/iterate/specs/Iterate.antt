@@ -33,5 +33,5 @@ unfoldable pub passedOf : (n m : ℕ) → Passed → Pass Iterate Result
 passedOf n m r = passed (r .ending) (r .iterate) (take n (r .iterate .board .x)) (take m (r .multipliers))
 
 -- what every pass keeps: each variable is held at one of its points or free between two
-pub record Kept (n : ℕ) (segments : List Segments) (i : Iterate) : Type 0 where
+pub record Consistent (n : ℕ) (segments : List Segments) (i : Iterate) : Type 0 where
   pub placed : AllPlaced n segments (i .board .state)

@@ -9,7 +9,7 @@ ghost use Rattle.factor_update.specs.Factor.{Rising};
 ghost use Rattle.factoring.specs.Kept.{keptOf, Good};
 ghost use Rattle.segments.specs.Segments.{AllCut};
 ghost use Rattle.iterate.specs.Problem.{problem, Shaped, Room};
-ghost use Rattle.iterate.specs.Iterate.{Kept};
+ghost use Rattle.iterate.specs.Iterate.{Consistent};
 ghost use Rattle.free_step.specs.FreeStep.{Split};
 ghost use Rattle.pass.specs.State.{madeOf, state};
 ghost use Rattle.pass.specs.Pass as Definition;
@@ -49,7 +49,7 @@ fn free_pass(
 ) -> Made
     requires { ⌜ Shaped (counts .originals) (counts .n) (counts .m) (now q) (now c) (now e) (now b)
         × AllCut (counts .n) segments
-        × Kept (counts .n) segments iterate
+        × Consistent (counts .n) segments iterate
         × (counts .n ≤ length (now fixed))
         × Split (counts .originals) (counts .n) (counts .m) (now e) (iterate .board .state) (now indices) (now solved) (now slacks)
         × Rising (counts .originals) (now solved)
@@ -61,7 +61,7 @@ fn free_pass(
         (problem (counts .originals) (counts .n) (counts .m) (now (q .entry)) (now (c .entry)) (now (e .entry)) (now (b .entry)))
         segments (now (fixed .entry)) (magnitudes .q) (magnitudes .linear) (now (solved .entry)) (now (slacks .entry)) iterate (keptOf factoring)
         (now (l .entry)) ⌝ }
-    ensures { λ r. ⌜ Kept (counts .n) segments (r .passed .iterate) × Good (counts .originals) (r .factoring) (now (l .exit)) ⌝ }
+    ensures { λ r. ⌜ Consistent (counts .n) segments (r .passed .iterate) × Good (counts .originals) (r .factoring) (now (l .exit)) ⌝ }
 {
     let n = counts.n;
     let k = solved.len();
@@ -152,7 +152,7 @@ pub fn pass(
 ) -> Made
     requires { ⌜ Shaped (counts .originals) (counts .n) (counts .m) (now q) (now c) (now e) (now b)
         × AllCut (counts .n) segments
-        × Kept (counts .n) segments iterate
+        × Consistent (counts .n) segments iterate
         × (length (now fixed) ≡ counts .n)
         × Room (counts .originals) (counts .n) (counts .m) (now room) (now «q_free») (now «e_free») (now gram)
         × Good (counts .originals) factoring (now l)
@@ -160,7 +160,7 @@ pub fn pass(
     ensures { λ r. ⌜ madeOf (counts .n) (counts .m) r (now (l .exit))
         ≡ Definition.pass (problem (counts .originals) (counts .n) (counts .m) (now (q .entry)) (now (c .entry)) (now (e .entry)) (now (b .entry)))
         segments (now (fixed .entry)) (magnitudes .q) (magnitudes .linear) (state iterate (keptOf factoring) (now (l .entry))) ⌝ }
-    ensures { λ r. ⌜ Kept (counts .n) segments (r .passed .iterate) × Good (counts .originals) (r .factoring) (now (l .exit)) ⌝ }
+    ensures { λ r. ⌜ Consistent (counts .n) segments (r .passed .iterate) × Good (counts .originals) (r .factoring) (now (l .exit)) ⌝ }
 {
     let board = iterate.board;
     let state = board.state;

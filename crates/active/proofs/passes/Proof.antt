@@ -1,7 +1,7 @@
 use Rattle.folds.specs.Kit.{_≡_, _+_, _-_, _≤_, refl, sym, _∙_, arith, kit}
 use Rattle.sizes.specs.Sizes as Sizes
 use Rattle.iterate.specs.Problem.{problem}
-use Rattle.iterate.specs.Iterate.{Kept}
+use Rattle.iterate.specs.Iterate.{Consistent}
 use Rattle.factoring.specs.Kept.{keptOf, Good}
 use Rattle.factoring.specs.Laws.{good-new}
 use Rattle.pass.specs.State.{state}
@@ -16,7 +16,7 @@ Inv-loop segments fixed q c e b counts magnitudes room₀ q-free₀ e-free₀ gr
     let p = problem (counts .originals) (counts .n) (counts .m) q c e b in
     (made ≤ made-end)
     × Same room q-free e-free gram l room₀ q-free₀ e-free₀ gram₀ l₀
-    × Kept (counts .n) segments at
+    × Consistent (counts .n) segments at
     × Good (counts .originals) factoring l
     × (Left p segments fixed (magnitudes .q) (magnitudes .linear) made (state at (keptOf factoring) l) ≡
     passes p segments fixed (magnitudes .q) (magnitudes .linear) at₀ l₀)

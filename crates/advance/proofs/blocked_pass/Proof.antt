@@ -1,7 +1,7 @@
 use Rattle.folds.specs.Kit.{_≡_, _∙_, length, needs}
 use Rattle.sizes.specs.Sizes as Sizes
 use Rattle.advance.specs.Advance.{blockedPass}
-use Rattle.advance.specs.Laws.{length-mapped, board-kept, moved-placed}
+use Rattle.advance.specs.Laws.{length-mapped, board-consistent, moved-placed}
 use Rattle.iterate.specs.Laws.{passed-more}
 use Rattle.advance.proofs.blocked_pass.Statement.{statement}
 use Rattle.advance.proofs.blocked_pass.Tie as tie
@@ -19,7 +19,7 @@ returns c =
     let i = e .1 ∙ c .before .with-board .ensures in (
       λ n m. passed-more n m (c .ended .result) (e .0) ∙ rw (i, b .move-and-block .ensures),
       λ n below placed. rw (i, b .move-and-block .ensures)
-          (board-kept n (a .segments) (a .iterate) _ _
+          (board-consistent n (a .segments) (a .iterate) _ _
           (moved-placed n (a .segments) _ _ _ _ _ _ _ _ _ (a .iterate .board) (states s) (s .pre .0) (s .pre .2) (below _ (s .pre .2)) placed)),
     )
 

@@ -5,7 +5,7 @@ use Rattle.sizes.specs.Sizes as Sizes
 use Rattle.segments.specs.Segments.{last, segmentsAt}
 use Rattle.iterate.specs.Laws.{passed-more, passed-optimal, passed-notConverged}
 use Rattle.advance.specs.Advance.{withBoard, decided}
-use Rattle.advance.specs.Laws.{length-mapped, release-enters, entered-placed, board-kept}
+use Rattle.advance.specs.Laws.{length-mapped, release-enters, entered-placed, board-consistent}
 use Rattle.advance.proofs.decided.Statement.{statement}
 use Rattle.advance.proofs.decided.Tie as tie
 
@@ -57,7 +57,7 @@ returns c =
       passed-more _ _ (c .ended .result) (e .0)
           ∙ rw (i, ← k .before .before .before .release .ensures, k .before .outcome .given .1, c .before .before .entered .ensures),
       rw (i, c .before .before .entered .ensures)
-          (board-kept (s .args .counts .n) (s .args .segments) (s .args .iterate) _ _ placed),
+          (board-consistent (s .args .counts .n) (s .args .segments) (s .args .iterate) _ _ placed),
     )
 
 returns-2 : tie.Need-returns-2
@@ -67,7 +67,7 @@ returns-2 c =
     let w = c .with-board2 .ensures in (
       passed-optimal _ _ _ refl
           ∙ rw (w, ← c .before .before .before .release .ensures, c .before .enum-told .given .1),
-      rw w (board-kept (s .args .counts .n) (s .args .segments) (s .args .iterate) (s .args .board) _ (s .pre .2)),
+      rw w (board-consistent (s .args .counts .n) (s .args .segments) (s .args .iterate) (s .args .board) _ (s .pre .2)),
     )
 
 returns-3 : tie.Need-returns-3

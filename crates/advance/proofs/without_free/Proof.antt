@@ -4,7 +4,7 @@ use Rattle.sizes.specs.Sizes as Sizes
 use Rattle.vector.specs.Laws.{take-zeros}
 use Rattle.iterate.specs.Laws.{passed-more, passed-optimal, passed-notConverged}
 use Rattle.advance.specs.Advance.{withoutFree}
-use Rattle.advance.specs.Laws.{everything-kept}
+use Rattle.advance.specs.Laws.{everything-consistent}
 use Rattle.advance.proofs.without_free.Statement.{statement}
 use Rattle.advance.proofs.without_free.Tie as tie
 
@@ -61,7 +61,7 @@ returns-3 c =
     let i = e .1 ∙ c .before .free-everything .ensures in (
       λ m h. passed-more (s .args .n) m (c .ended3 .result) (e .0)
           ∙ rw (i, ← l .before .all-true .ensures, l .if1 .left, ← f .freed-here .ensures, c .before .before .if2 .left),
-      rw i (everything-kept (s .args .n) (s .args .segments) (s .args .fixed .now) (s .args .iterate) (s .pre .3) (s .pre .4)),
+      rw i (everything-consistent (s .args .n) (s .args .segments) (s .args .fixed .now) (s .args .iterate) (s .pre .3) (s .pre .4)),
     )
 
 pub without-free-spec : {M : Type 1} → statement M

@@ -5,7 +5,7 @@ use native.Mathlib.Nat.{le-refl}
 use lib.Seq.{length-take-le}
 use Rattle.vector.specs.Laws.{length-filled}
 use Rattle.segments.specs.Laws.{length-allFixed}
-use Rattle.in_units.specs.Laws.{started-kept, units-from}
+use Rattle.in_units.specs.Laws.{started-consistent, units-from}
 use Rattle.in_units.proofs.solve_piecewise_in_units.Statement.{statement}
 use Rattle.in_units.proofs.solve_piecewise_in_units.Tie as tie
 
@@ -34,7 +34,7 @@ passes-requires c κs =
     let s = start (first (f .before)) .pre in (
       s .0,
       s .1,
-      rw (f .before .started .ensures) (started-kept _ _ _ (s .1)),
+      rw (f .before .started .ensures) (started-consistent _ _ _ (s .1)),
       sym (slice-aggregate-passes f),
       s .3,
       rw (s .4, length-filled) (le-refl _),
