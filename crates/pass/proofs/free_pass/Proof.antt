@@ -1,7 +1,5 @@
 use Rattle.folds.specs.Kit.{_≡_, _≤_, _*_, refl, sym, _∙_, arith, length, needs}
 use native.Mathlib.Nat.{le-of-eq, le-trans}
-use mathlib.Core.List.{List}
-use lib.Ieee.{Float}
 use lib.Seq.{length-take-le}
 use Rattle.folds.specs.Cell.{area}
 use Rattle.sizes.specs.Sizes as Sizes
@@ -21,6 +19,9 @@ start c =
 abbrev ends-at : tie.After-gather → tie.After-ends-and-slopes
 ends-at c = c .before .before .before .before .before .before .before .before .before
 
+abbrev begun : tie.After-gather → tie.Start
+begun c = start (ends-at c .before)
+
 abbrev gather-at : tie.After-multipliers → tie.After-gather
 gather-at c = c .before .before .before .before .before .before .before .before .before .before .before .before .before
 
@@ -33,23 +34,6 @@ gathered c = gather-at (solve-at c .before)
 abbrev lent : tie.After-upper3 → tie.After-left
 lent c = c .before .before .before .before .before .before
 
--- ---- the lists that the ends leave
-abbrev lower-left : tie.After-ends-and-slopes → List Float
-lower-left c = c .ends-and-slopes .last .1 .1 .1 .0
-
-abbrev upper-left : tie.After-ends-and-slopes → List Float
-upper-left c = c .ends-and-slopes .last .1 .1 .1 .1 .0
-
-abbrev slope-left : tie.After-ends-and-slopes → List Float
-slope-left c = c .ends-and-slopes .last .1 .1 .1 .1 .1 .0
-
--- ---- the step and the multipliers that the solve leaves
-abbrev delta-left : tie.After-solve-free → List Float
-delta-left c = c .solve-free .last .1 .1 .1 .1 .1 .1 .1 .1 .1 .1 .0
-
-abbrev multipliers-left : tie.After-solve-free → List Float
-multipliers-left c = c .solve-free .last .1 .1 .1 .1 .1 .1 .1 .1 .1 .1 .1 .0
-
 -- ---- what each array that is lent in part holds
 indices-few : (c : tie.Start) → length (c .args .indices .now) ≤ Sizes.variables
 indices-few c = rw (c .pre .4 .free) (le-trans (free-few _ _) (c .pre .0 .variables))
@@ -60,16 +44,16 @@ solved-fit c = let h = c .pre .4 .counted in omega arith
 x-fits : (c : tie.Start) → c .args .counts .n ≤ length (c .args .iterate .board .x)
 x-fits c = let e : length (c .args .iterate .board .x) ≡ Sizes.variables = search needs in rw e (c .pre .0 .variables)
 
-lower-fits : (c : tie.After-ends-and-slopes) → length (start (c .before) .args .indices .now) ≤ length (lower-left c)
+lower-fits : (c : tie.After-ends-and-slopes) → length (start (c .before) .args .indices .now) ≤ length (c .ends-and-slopes .last .1 .1 .1 .0)
 lower-fits c = rw (c .ends-and-slopes .kept .1 .1 .1 .0) (indices-few (start (c .before)))
 
-upper-fits : (c : tie.After-ends-and-slopes) → length (start (c .before) .args .indices .now) ≤ length (upper-left c)
+upper-fits : (c : tie.After-ends-and-slopes) → length (start (c .before) .args .indices .now) ≤ length (c .ends-and-slopes .last .1 .1 .1 .1 .0)
 upper-fits c = rw (c .ends-and-slopes .kept .1 .1 .1 .1 .0) (indices-few (start (c .before)))
 
-slope-holds : (c : tie.After-ends-and-slopes) → length (start (c .before) .args .indices .now) ≤ length (slope-left c)
+slope-holds : (c : tie.After-ends-and-slopes) → length (start (c .before) .args .indices .now) ≤ length (c .ends-and-slopes .last .1 .1 .1 .1 .1 .0)
 slope-holds c = rw (c .ends-and-slopes .kept .1 .1 .1 .1 .1 .0) (indices-few (start (c .before)))
 
-slope-fits : (c : tie.After-ends-and-slopes) → length (start (c .before) .args .solved .now) ≤ length (slope-left c)
+slope-fits : (c : tie.After-ends-and-slopes) → length (start (c .before) .args .solved .now) ≤ length (c .ends-and-slopes .last .1 .1 .1 .1 .1 .0)
 slope-fits c = le-trans (solved-fit (start (c .before))) (slope-holds c)
 
 -- ---- what the gathering leaves of the lent memory
@@ -77,35 +61,32 @@ solved-few : (c : tie.Start) → length (c .args .solved .now) ≤ c .args .coun
 solved-few c = listed-few _ _ (c .pre .5)
 
 square-fits : (c : tie.After-gather) →
-    length (start (ends-at c .before) .args .solved .now) * length (start (ends-at c .before) .args .solved .now)
-    ≤ length (c .gather .last .1 .1 .1 .1 .1 .1 .1 .1 .1 .1 .0)
+    let k = length (begun c .args .solved .now) in k * k ≤ length (c .gather .last .1 .1 .1 .1 .1 .1 .1 .1 .1 .1 .0)
 square-fits c =
-    let s = start (ends-at c .before) in
-    rw (c .gather .kept .1 .1 .1 .1 .1 .1 .1 .1 .1 .1 .0) (le-trans (area (solved-few s) (solved-few s)) (s .pre .6 .q-free))
+    let few = solved-few (begun c) in
+    rw (c .gather .kept .1 .1 .1 .1 .1 .1 .1 .1 .1 .1 .0) (le-trans (area few few) (begun c .pre .6 .q-free))
 
 entries-few : (c : tie.After-gather) →
-    let s = start (ends-at c .before) in
-    length (s .args .solved .now) * c .gather .result .columns ≤ s .args .counts .originals * s .args .counts .m
-entries-few c = area (solved-few (start (ends-at c .before))) (c .gather .ensures .1 .kept-few)
+    length (begun c .args .solved .now) * c .gather .result .columns ≤ begun c .args .counts .originals * begun c .args .counts .m
+entries-few c = area (solved-few (begun c)) (c .gather .ensures .1 .kept-few)
 
 entries-fit : (c : tie.After-gather) →
-    length (start (ends-at c .before) .args .solved .now) * c .gather .result .columns
-    ≤ length (c .gather .last .1 .1 .1 .1 .1 .1 .1 .1 .1 .1 .1 .0)
-entries-fit c =
-    rw (c .gather .kept .1 .1 .1 .1 .1 .1 .1 .1 .1 .1 .1 .0) (le-trans (entries-few c) (start (ends-at c .before) .pre .6 .e-free))
+    length (begun c .args .solved .now) * c .gather .result .columns ≤ length (c .gather .last .1 .1 .1 .1 .1 .1 .1 .1 .1 .1 .1 .0)
+entries-fit c = rw (c .gather .kept .1 .1 .1 .1 .1 .1 .1 .1 .1 .1 .1 .0) (le-trans (entries-few c) (begun c .pre .6 .e-free))
 
 -- ---- what the solve is lent, and leaves
 solved-fits : (c : tie.Start) → length (c .args .solved .now) ≤ Sizes.originals
 solved-fits c = le-trans (solved-few c) (c .pre .0 .few)
 
 kept-fits : (c : tie.After-gather) → c .gather .result .columns ≤ Sizes.columns
-kept-fits c = le-trans (c .gather .ensures .1 .kept-few) (start (ends-at c .before) .pre .0 .columns)
+kept-fits c = le-trans (c .gather .ensures .1 .kept-few) (begun c .pre .0 .columns)
 
-delta-fits : (c : tie.After-solve-free) → length (start (ends-at (gather-at (c .before)) .before) .args .solved .now) ≤ length (delta-left c)
-delta-fits c =
-    rw (c .solve-free .kept .1 .1 .1 .1 .1 .1 .1 .1 .1 .1 .0) (solved-fits (start (ends-at (gather-at (c .before)) .before)))
+delta-fits : (c : tie.After-solve-free) →
+    length (begun (gather-at (c .before)) .args .solved .now) ≤ length (c .solve-free .last .1 .1 .1 .1 .1 .1 .1 .1 .1 .1 .0)
+delta-fits c = rw (c .solve-free .kept .1 .1 .1 .1 .1 .1 .1 .1 .1 .1 .0) (solved-fits (begun (gather-at (c .before))))
 
-multipliers-fit : (c : tie.After-solve-free) → gather-at (c .before) .gather .result .columns ≤ length (multipliers-left c)
+multipliers-fit : (c : tie.After-solve-free) →
+    gather-at (c .before) .gather .result .columns ≤ length (c .solve-free .last .1 .1 .1 .1 .1 .1 .1 .1 .1 .1 .1 .0)
 multipliers-fit c = rw (c .solve-free .kept .1 .1 .1 .1 .1 .1 .1 .1 .1 .1 .1 .0) (kept-fits (gather-at (c .before)))
 
 -- ---- the calls
@@ -139,7 +120,7 @@ gather-requires c κs =
 solve-free-requires : tie.Need-solve-free-requires
 solve-free-requires c κs =
     let g = gather-at c in
-    let p = start (ends-at g .before) .pre in
+    let p = begun g .pre in
     let few = g .gather .ensures .1 .kept-few in
     let room = g .gather .kept .1 .1 .1 .1 .1 .1 .1 .1 .1 .0 in (
       record {
@@ -154,7 +135,7 @@ solve-free-requires c κs =
       entries-fit g,
       rw room (le-trans (entries-few g) (p .6 .columns)),
       le-trans (area few few) (p .6 .gram-room),
-      solved-fits (start (ends-at g .before)),
+      solved-fits (begun g),
       kept-fits g,
     )
 
