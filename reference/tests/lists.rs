@@ -1,57 +1,55 @@
 //! The fixed lists, read back and run again.
 
+use reference::cases::algebra;
 use reference::cases::code::Decoder;
+use reference::cases::engine::{Call, Case};
 use reference::cases::factor::{Record, agree};
 use reference::cases::lists::path;
-use reference::cases::{algebra, engine};
 use std::collections::BTreeMap;
 
 fn list(program: &str) -> Vec<u8> {
     std::fs::read(path(program)).expect("the list")
 }
 
-/// How often each outcome occurs in a call's list, every record's outcome being the reference's.
-fn replay(program: &str, expected: engine::Call) -> BTreeMap<u32, usize> {
+/// How often each outcome occurs.
+type Counts = BTreeMap<u32, usize>;
+
+/// The counts of each call in a list, every record's outcome being the reference's.
+fn replay(program: &str) -> BTreeMap<Call, Counts> {
     let bytes = list(program);
     let mut records = Decoder::new(&bytes);
-    let mut counts = BTreeMap::new();
+    let mut counts: BTreeMap<_, Counts> = BTreeMap::new();
     while !records.at_end() {
-        let (call, case, outcome) = engine::Case::decode(records.record());
-        assert_eq!(call, expected);
+        let (call, case, outcome) = Case::decode(records.record());
         assert!(case.run(call).agrees(&outcome), "{case:?}");
-        *counts.entry(outcome.number).or_default() += 1;
+        let of_call = counts.entry(call).or_default();
+        *of_call.entry(outcome.number).or_default() += 1;
     }
     counts
 }
 
-fn assert_outcomes(counts: &BTreeMap<u32, usize>, least: usize, outcomes: &[u32]) {
+fn assert_outcomes(counts: &Counts, least: usize, outcomes: &[u32]) {
     assert!(counts.values().sum::<usize>() >= least);
     assert_eq!(counts.keys().copied().collect::<Vec<_>>(), outcomes);
 }
 
 #[test]
 fn kkt() {
-    let counts = replay("replay_kkt", engine::Call::Kkt);
-    assert_outcomes(&counts, 1600, &[0, 9, 11, 12, 100]);
+    let counts = replay("replay_kkt");
+    assert!(counts.keys().eq(&[Call::Kkt]));
+    assert_outcomes(&counts[&Call::Kkt], 1600, &[0, 9, 11, 12, 100]);
 }
 
+/// The capped call can't give 13: a raise at which the objective has no minimum is one that turns over too much.
 #[test]
-fn bounded() {
-    let counts = replay("replay_bounded", engine::Call::Bounded);
-    assert_outcomes(&counts, 900, &[0, 9, 10, 11, 12, 13, 14]);
-}
-
-#[test]
-fn piecewise() {
-    let counts = replay("replay_piecewise", engine::Call::Piecewise);
-    assert_outcomes(&counts, 900, &[0, 9, 10, 11, 12, 13, 14]);
-}
-
-/// 13 can't occur: a raise at which the objective has no minimum is one that turns over too much.
-#[test]
-fn capped() {
-    let counts = replay("replay_capped", engine::Call::Capped);
-    assert_outcomes(&counts, 900, &[0, 9, 10, 11, 12, 14]);
+fn bounded_piecewise_and_capped() {
+    let counts = replay("replay_engine");
+    let calls = [Call::Bounded, Call::Piecewise, Call::Capped];
+    assert!(counts.keys().eq(&calls));
+    let uncapped = [0, 9, 10, 11, 12, 13, 14];
+    assert_outcomes(&counts[&Call::Bounded], 900, &uncapped);
+    assert_outcomes(&counts[&Call::Piecewise], 900, &uncapped);
+    assert_outcomes(&counts[&Call::Capped], 900, &[0, 9, 10, 11, 12, 14]);
 }
 
 #[test]
@@ -93,7 +91,7 @@ fn factors() {
 
 #[test]
 fn lists_are_small() {
-    let programs = ["algebra", "kkt", "bounded", "piecewise", "capped", "factor"];
+    let programs = ["algebra", "kkt", "engine", "factor"];
     let sizes = programs.map(|program| list(&format!("replay_{program}")).len());
     assert!(sizes.iter().sum::<usize>() < 3_000_000);
 }

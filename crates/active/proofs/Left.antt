@@ -13,11 +13,13 @@ use Rattle.factoring.specs.Kept.{Kept, new, keptOf}
 use Rattle.pass.specs.declared.Made.{Made}
 use Rattle.pass.specs.State.{State, state, madeOf, made-beside}
 use Rattle.pass.specs.Pass.{pass}
-use Rattle.active.specs.declared.Minimum as Declared
-use Rattle.active.specs.declared.SolveVerdict.the-variants.{NotConverged}
-use Rattle.active.specs.Minimized.{Minimized, minimizedOf}
-use Rattle.active.specs.Active.{step, goesOn, Ends, spent, budget, passes}
-use Rattle.active.specs.Laws.{counted-more, minimizedOf-notConverged}
+use Rattle.minimum.specs.declared.Minimum as Declared
+use Rattle.minimum.specs.declared.SolveVerdict.the-variants.{NotConverged}
+use Rattle.minimum.specs.Minimized.{Minimized, minimizedOf}
+use Rattle.minimum.specs.Counted.{goesOn, Ends, budget}
+use Rattle.minimum.specs.Laws.{minimizedOf-notConverged}
+use Rattle.active.specs.Active.{step, spent, passes}
+use Rattle.active.specs.Laws.{counted-more, counted-done}
 
 unfoldable pub Left : Problem → (segments : List Segments) (fixed : List Bool) (qAmax linear : Float) (made : ℕ) (s : State) → Minimized
 Left (problem originals n m q c e b) segments fixed qAmax linear made s =
@@ -44,9 +46,9 @@ module _ (originals n m : ℕ) (q c e b : List Float) (segments : List Segments)
       unfolding Left step
       again g = run-more _ _ (budget n) made s _ under (rw (← gave, made-beside) (counted-more (t .passed) (made + 1) n m _ l g)) ∙ left
 
-      pub ended : (a : Declared.Minimum) → Ends (t .passed) (made + 1) a → minimizedOf n m a ≡ r
+      pub ended : (a : Declared.Minimum) → Ends (t .passed) made a → minimizedOf n m a ≡ r
       unfolding Left step
-      ended a f = run-done _ _ (budget n) made s under (rw (← gave, made-beside) (f n m _ l)) ∙ left
+      ended a f = run-done _ _ (budget n) made s under (rw (← gave, made-beside) (counted-done (made + 1) _ l _ (f n m))) ∙ left
 
 -- ---- the slices that each pass is lent keep their lengths
 pub record Same (room qFree eFree gram l room₀ qFree₀ eFree₀ gram₀ l₀ : List Float) : Type 0 where

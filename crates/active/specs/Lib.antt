@@ -1,3 +1,2 @@
-pub mod Minimized
 pub mod Active
 pub mod Laws

@@ -2,6 +2,7 @@
 ghost use mathlib.Core.Path.{_≡_};
 ghost use mathlib.Core.List.{_++_};
 ghost use Prim.Native.Nat.{_+_, _*_, _≤_, _<_};
+ghost use lib.Dec.{leb};
 ghost use lib.ListN.{length};
 ghost use Rattle.block.specs.Ranges.{maxWords, maxAnchors, maxSpans};
 ghost use Rattle.answer.specs.File.{answerOf, bytes, code, in4, in8, each, field, fileSize, Written};
@@ -119,6 +120,14 @@ pub fn file_size(times: usize, prices: usize) -> usize
     22 + 4 * times + 8 * prices
 }
 
+// Whether a slice of so many bytes has room for it.
+pub fn has_room(times: usize, prices: usize, room: usize) -> bool
+    requires { ⌜ (times ≤ 32) × (prices ≤ 25) ⌝ }
+    ensures { λ r. ⌜ r ≡ leb (fileSize times prices) room ⌝ }
+{
+    file_size(times, prices) <= room
+}
+
 // Writes the answer file to the front of `out`, whose other bytes are kept; 8 where it is too small, and then all are. Field 20 has two bytes.
 pub fn write(out: &mut [u8], times: &[i32], prices: &[i64], gap: i64, passes: u64) -> u32
     requires { ⌜ (length (now times) ≤ maxWords) × (length (now prices) ≤ maxAnchors + maxSpans + 1) × (passes < 65536) ⌝ }
@@ -126,7 +135,7 @@ pub fn write(out: &mut [u8], times: &[i32], prices: &[i64], gap: i64, passes: u6
 {
     let t = times.len();
     let p = prices.len();
-    if out.len() < file_size(t, p) {
+    if !has_room(t, p, out.len()) {
         return 8;
     }
     let at = 3 + 4 * t;

@@ -10,15 +10,20 @@ use lib.Ieee.{Float}
 use Rattle.block.specs.Block.{Block}
 use Rattle.block.specs.Ranges.{Ranged}
 use Rattle.format.specs.declared.Block as Held
-use Rattle.cap.specs.Capped.{CappedAnswer, Capped, optimal, unbounded, engine, solveTurnoverCapped, Written}
-use Rattle.cap.specs.Laws.{optimal-sized, never-unbounded, engine-answer, optimal-written}
+use Rattle.minimum.specs.Capped.{Capped, optimal, unbounded}
+use Rattle.outputs.specs.Capped.{CappedAnswer, engine, Written, optimal-written}
+use Rattle.cap.specs.Capped.{solveTurnoverCapped}
+use Rattle.cap.specs.Laws.{optimal-sized, never-unbounded, engine-answer}
 use Rattle.format.specs.Structs.{blockOf, Sound}
 use Rattle.format.specs.Entries.{words-length, anchors-length, spans-length}
-use Rattle.block_qp.specs.Qp.{hessian, linear, keys, slopes, lowers, uppers, starts, cap}
-use Rattle.block_qp.specs.Qp.{anchorColumns, anchorValues, spanColumns, spanLowers, spanUppers}
-use Rattle.block_qp.specs.Laws.{length-hessian, length-linear, length-keys, length-slopes, length-lowers, length-uppers, length-starts}
-use Rattle.block_qp.specs.Laws.{length-anchorColumns, length-anchorValues, length-spanColumns, length-spanLowers, length-spanUppers}
-use Rattle.block_qp.specs.Exact.{lowers-numbers, uppers-numbers, spanLowers-numbers, spanUppers-numbers}
+use Rattle.block_cost.specs.Cost.{hessian, linear}
+use Rattle.block_cost.specs.Laws.{length-hessian, length-linear}
+use Rattle.word_numbers.specs.Words.{keys, slopes, lowers, uppers, starts, cap}
+use Rattle.word_numbers.specs.Laws.{length-keys, length-slopes, length-lowers, length-uppers, length-starts}
+use Rattle.word_numbers.specs.Exact.{lowers-numbers, uppers-numbers}
+use Rattle.block_rows.specs.Rows.{anchorColumns, anchorValues, spanColumns, spanLowers, spanUppers}
+use Rattle.block_rows.specs.Laws.{length-anchorColumns, length-anchorValues, length-spanColumns, length-spanLowers, length-spanUppers}
+use Rattle.block_rows.specs.Exact.{spanLowers-numbers, spanUppers-numbers}
 use Rattle.quadratic.specs.Quadratic.{Quadratic, quadratic, shaped, blank}
 use Rattle.quadratic.specs.Laws.{shaped-yes, blank-no}
 use Rattle.block_solve.specs.Solve.{quadraticOf, solveBlock, Matrices, Words, Solves}

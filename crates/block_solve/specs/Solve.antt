@@ -1,5 +1,5 @@
 -- A block, handed to the engine. Document 01, "The block file": "To the engine, Q adds weight × coefficient products, c adds weight × target ×
--- coefficient; key and slope are the kink." The parts are block_qp's.
+-- coefficient; key and slope are the kink." The parts are those of block_cost, word_numbers and block_rows.
 use mathlib.Core.Path.{_≡_}
 use mathlib.Core.List.{List}
 use Prim.Native.Nat.{_+_}
@@ -8,10 +8,13 @@ use lib.Ieee.{Float}
 use Rattle.block.specs.Block.{Block}
 use Rattle.format.specs.declared.Block as Held
 use Rattle.format.specs.Structs.{blockOf}
-use Rattle.block_qp.specs.Qp.{hessian, linear, anchorColumns, anchorValues, spanColumns, spanLowers, spanUppers, lowers, uppers, keys, slopes, starts}
-use Rattle.block_qp.specs.Qp.{cap}
+use Rattle.block_cost.specs.Cost.{hessian, linear}
+use Rattle.word_numbers.specs.Words.{lowers, uppers, keys, slopes, starts, cap}
+use Rattle.block_rows.specs.Rows.{anchorColumns, anchorValues, spanColumns, spanLowers, spanUppers}
 use Rattle.quadratic.specs.Quadratic.{Quadratic, quadratic}
-use Rattle.cap.specs.Capped.{CappedAnswer, optimal, engine, solveTurnoverCapped, number}
+use Rattle.minimum.specs.Capped.{optimal}
+use Rattle.outputs.specs.Capped.{CappedAnswer, engine, number}
+use Rattle.cap.specs.Capped.{solveTurnoverCapped}
 use Rattle.block_solve.specs.declared.Solved.{Solved}
 
 unfoldable pub quadraticOf : Block → Quadratic

@@ -1,4 +1,5 @@
-// A block, handed to the engine. The definition is specs/Solve.antt; what the engine gets of a block, crate `block_qp`.
+// A block, handed to the engine. The definition is specs/Solve.antt; what the engine gets of a block, crates `block_cost`,
+// `word_numbers` and `block_rows`.
 use format::Block;
 ghost use mathlib.Core.Path.{_≡_};
 ghost use Rattle.block.specs.Ranges.{Ranged};
@@ -66,7 +67,7 @@ fn engine(
         at,
         slopes,
         start,
-        block_qp::cap(block),
+        word_numbers::cap(block),
         n,
         m,
         r,
@@ -108,9 +109,9 @@ fn solve_rows(
     let mut b = [0.0; format::MAX_ANCHORS];
     let mut row_lower = [0.0; format::MAX_SPANS];
     let mut row_upper = [0.0; format::MAX_SPANS];
-    block_qp::anchor_values(block, &mut b[..m]);
-    block_qp::span_lowers(block, &mut row_lower[..r]);
-    block_qp::span_uppers(block, &mut row_upper[..r]);
+    block_rows::anchor_values(block, &mut b[..m]);
+    block_rows::span_lowers(block, &mut row_lower[..r]);
+    block_rows::span_uppers(block, &mut row_upper[..r]);
     engine(
         block,
         q,
@@ -142,12 +143,12 @@ fn solve_words(block: Block, q: &[f64], e: &[f64], a: &[f64]) -> Solved
     let mut at = [0.0; format::MAX_WORDS];
     let mut slopes = [0.0; format::MAX_WORDS];
     let mut start = [0.0; format::MAX_WORDS];
-    block_qp::linear(block, &mut c[..n]);
-    block_qp::lowers(block, &mut lower[..n]);
-    block_qp::uppers(block, &mut upper[..n]);
-    block_qp::keys(block, &mut at[..n]);
-    block_qp::slopes(block, &mut slopes[..n]);
-    block_qp::starts(block, &mut start[..n]);
+    block_cost::linear(block, &mut c[..n]);
+    word_numbers::lowers(block, &mut lower[..n]);
+    word_numbers::uppers(block, &mut upper[..n]);
+    word_numbers::keys(block, &mut at[..n]);
+    word_numbers::slopes(block, &mut slopes[..n]);
+    word_numbers::starts(block, &mut start[..n]);
     solve_rows(
         block,
         q,
@@ -175,8 +176,8 @@ pub fn solve(block: Block) -> Solved
     let mut q = [0.0; SQUARE];
     let mut e = [0.0; ANCHOR_ENTRIES];
     let mut a = [0.0; SPAN_ENTRIES];
-    block_qp::hessian(block, &mut q[..square]);
-    block_qp::anchor_columns(block, &mut e[..anchors]);
-    block_qp::span_columns(block, &mut a[..spans]);
+    block_cost::hessian(block, &mut q[..square]);
+    block_rows::anchor_columns(block, &mut e[..anchors]);
+    block_rows::span_columns(block, &mut a[..spans]);
     solve_words(block, &q[..square], &e[..anchors], &a[..spans])
 }

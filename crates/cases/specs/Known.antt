@@ -19,8 +19,8 @@ use Rattle.format.specs.Known.{known, knownFile, longest, wordBytes, knownWord,
 use Rattle.format.specs.Known.{known-read, P5-accepted, P5-refused, P6-refused}
 use Rattle.arith.specs.Float.{f0, f1, f2, sqrt}
 use Rattle.arith.specs.Known.{f4, P7}
-use Rattle.factor_update.specs.Factor.{joining, afresh}
-use Rattle.factor_update.specs.Known.{heldFive, listedSix, listedFive, P8}
+use Rattle.variable_set.specs.Joining.{joining, afresh}
+use Rattle.variable_set.specs.Known.{heldFive, listedSix, listedFive, P8}
 use Rattle.cases.specs.Kept.{fromTo, keeps, keeps-true}
 
 -- what a case says of: a whole number, a test, how a file is read, a float

@@ -4,16 +4,18 @@ use Prim.Native.Nat.{ℕ, _+_, _-_, _*_, min}
 use mathlib.Core.Bool.{Bool, false}
 use mathlib.Core.List.{List}
 use lib.Dec.{eqb}
-use lib.ListN.{length, set, take}
+use lib.ListN.{length, take}
 use lib.Ieee.{Float}
-use Rattle.folds.specs.Fold.{fold, span, tab, tabM, pick}
+use Rattle.folds.specs.Fold.{fold, tab, tabM, pick}
 use Rattle.folds.specs.Part.{Two, two}
-use Rattle.arith.specs.Float.{fadd, fsub, fmul, fdiv, f0, at, sum}
+use Rattle.arith.specs.Float.{f0}
 use Rattle.vector.specs.Vector.{sub, filled}
-use Rattle.matrix.specs.Matrix.{cell, index, identity, mul, trMul, mulVec, trMulVec}
+use Rattle.columns.specs.Columns.{cell}
+use Rattle.matrix.specs.Matrix.{identity, mul, trMul, mulVec, trMulVec}
 use Rattle.householder.specs.Householder.{qr, qTrMul}
 use Rattle.pivoting.specs.Pivoting.{Pivoting, pivoting, factored}
 use Rattle.pivoting.specs.declared.Pivots.{Pivots}
+use Rattle.substitution.specs.Substitution.{forward, backward}
 
 -- ---- `Constraints::new`: Z, from Y
 -- `range.qr().q_tr_mul(&mut q_transpose)`, of the identity
@@ -58,33 +60,10 @@ unfoldable pub new : (n m : ℕ) (e : List Float) → Constraints
 new n m e = withNull n (factored n m (min n m) e)
 
 -- ---- `smallest_feasible`: the smallest x with Eᵀx = b on the pivot columns, x = Yu with Tᵀu = b, by forward substitution
--- `(b[j] - known) / self.coefficients[(i, j)]`
-unfoldable pub feasibleOne : (p : ℕ) (coefficients b : List Float) (j i : ℕ) (u : List Float) → Float
-feasibleOne p coefficients b j i u = fdiv (fsub (at b j) (sum i (λ k. fmul (cell coefficients p k j) (at u k)))) (cell coefficients p i j)
-
-unfoldable pub forward : (p : ℕ) (coefficients b : List Float) (pivots : List ℕ) (rank : ℕ) (u : List Float) → List Float
-forward p coefficients b pivots rank u = fold rank (λ i x. set x i (feasibleOne p coefficients b (index pivots i) i x)) u
-
 unfoldable pub smallestFeasible : (n m : ℕ) (range coefficients b : List Float) (pivots : List ℕ) (rank : ℕ) → List Float
 smallestFeasible n m range coefficients b pivots rank = mulVec n rank range (forward (min n m) coefficients b pivots rank (filled rank f0))
 
 -- ---- `multipliers`: the λ that best solves Eλ = g, Tλ = Yᵀg on the pivot columns, by back substitution, with zero for dependent columns
--- `self.pivots[first..].iter().map(|&l| self.coefficients[(i, l)] * lambda[l]).sum()`
-unfoldable pub knownFrom : (p : ℕ) (coefficients : List Float) (pivots : List ℕ) (rank i first : ℕ) (lambda : List Float) → Float
-knownFrom p coefficients pivots rank i first lambda =
-    span first rank (λ k known. fadd known (fmul (cell coefficients p i (index pivots k)) (at lambda (index pivots k)))) f0
-
--- `(h[i] - known) / self.coefficients[(i, j)]`
-unfoldable pub multiplierOne : (p : ℕ) (coefficients : List Float) (h : Float) (pivots : List ℕ) (rank i : ℕ) (lambda : List Float) → Float
-multiplierOne p coefficients h pivots rank i lambda =
-    fdiv (fsub h (knownFrom p coefficients pivots rank i (i + 1) lambda)) (cell coefficients p i (index pivots i))
-
-unfoldable pub backwardOne : (p : ℕ) (coefficients h : List Float) (pivots : List ℕ) (rank i : ℕ) (lambda : List Float) → List Float
-backwardOne p coefficients h pivots rank i lambda = set lambda (index pivots i) (multiplierOne p coefficients (at h i) pivots rank i lambda)
-
-unfoldable pub backward : (p : ℕ) (coefficients h : List Float) (pivots : List ℕ) (rank : ℕ) (lambda : List Float) → List Float
-backward p coefficients h pivots rank lambda = fold rank (λ t. backwardOne p coefficients h pivots rank (rank - 1 - t)) lambda
-
 unfoldable pub multipliers : (n m : ℕ) (range coefficients g : List Float) (pivots : List ℕ) (rank : ℕ) → List Float
 multipliers n m range coefficients g pivots rank =
     backward (min n m) coefficients (trMulVec n rank range g) pivots rank (filled m f0)

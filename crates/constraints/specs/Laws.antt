@@ -16,8 +16,9 @@ use Rattle.householder.specs.Householder.{qr, qTrMul}
 use Rattle.pivoting.specs.Pivoting.{factored, stateOf}
 use Rattle.pivoting.specs.Laws.{state-parts}
 use Rattle.pivoting.specs.declared.Pivots.{Pivots}
+use Rattle.substitution.specs.Substitution.{forward, backward}
 use Rattle.constraints.specs.Constraints.{applied, qTranspose, rowsTransposed, lessRange, completed, nullSpace}
-use Rattle.constraints.specs.Constraints.{constraints, constraintsOf, withNull, new, forward, smallestFeasible, backward, multipliers}
+use Rattle.constraints.specs.Constraints.{constraints, constraintsOf, withNull, new, smallestFeasible, multipliers}
 
 pub length-rowsTransposed : (n rank d : ℕ) (q : List Float) → length (rowsTransposed n rank d q) ≡ n * d
 unfolding rowsTransposed

@@ -8,7 +8,7 @@ ghost use lib.ListN.{length, take};
 ghost use Rattle.folds.specs.Fold.{fold, tab, over};
 ghost use Rattle.sizes.specs.Sizes as Sizes;
 ghost use Rattle.vector.specs.Vector.{Below};
-ghost use Rattle.matrix.specs.Matrix as Matrix;
+ghost use Rattle.columns.specs.Columns as Columns;
 ghost use Rattle.pivoting.specs.Pivoting.{Taken};
 ghost use Rattle.constraints.specs.Constraints as Definition;
 ghost use Rattle.constraints.specs.Room.{Room};
@@ -62,11 +62,11 @@ fn q_transpose(range: &[f64], n: usize, rank: usize, room: &mut [f64], q: &mut [
 fn rows_transposed_column(q: &[f64], n: usize, rank: usize, d: usize, j: usize, z: &mut [f64])
     requires { ⌜ (n * n ≤ length (now q)) × (rank + d ≡ n) × (j < d) × (n * d ≤ length (now z)) ⌝ }
     ensures { λ _. ⌜ now (z .exit)
-        ≡ Matrix.putColumn n n j (λ i. Matrix.cell (now (q .entry)) n (rank + j) i) (now (z .entry)) ⌝ }
+        ≡ Columns.putColumn n n j (λ i. Columns.cell (now (q .entry)) n (rank + j) i) (now (z .entry)) ⌝ }
 {
     for i in 0..n {
-        let v = matrix::get(q, n, n, rank + j, i);
-        matrix::put(z, n, d, i, j, v);
+        let v = columns::get(q, n, n, rank + j, i);
+        columns::put(z, n, d, i, j, v);
     }
 }
 
@@ -199,7 +199,7 @@ fn new_in(
         ≡ Definition.new n m (now (e .entry)) ⌝ }
     ensures { λ r. ⌜ Taken (min n m) m r ⌝ }
 {
-    let p = pivoting::smaller_of(n, m);
+    let p = pivot_choice::smaller_of(n, m);
     let entries = n * m;
     let t = p * m;
     let y = n * p;
@@ -276,48 +276,6 @@ pub fn new(
     new_large(e, n, m, coefficients, range, null)
 }
 
-fn feasible_one(
-    coefficients: &[f64],
-    p: usize,
-    m: usize,
-    b: &[f64],
-    j: usize,
-    i: usize,
-    u: &[f64],
-) -> f64
-    requires { ⌜ (p * m ≤ length (now coefficients)) × (m ≤ length (now b)) × (j < m) × (i < p) × (i ≤ length (now u)) ⌝ }
-    ensures { λ r. ⌜ r ≡ Definition.feasibleOne p (now (coefficients .entry)) (now (b .entry)) j i (now (u .entry)) ⌝ }
-{
-    let mut known = 0.0;
-    for k in 0..i {
-        known = known + matrix::get(coefficients, p, m, k, j) * u[k];
-    }
-    (b[j] - known) / matrix::get(coefficients, p, m, i, j)
-}
-
-// u with Tᵀu = b on the pivot columns, by forward substitution.
-fn forward(
-    coefficients: &[f64],
-    p: usize,
-    m: usize,
-    b: &[f64],
-    pivots: &[usize],
-    rank: usize,
-    u: &mut [f64],
-)
-    requires { ⌜ (p * m ≤ length (now coefficients))
-        × (m ≤ length (now b))
-        × (rank ≤ length (now pivots))
-        × (rank ≤ p)
-        × Below rank (now pivots) m
-        × (rank ≤ length (now u)) ⌝ }
-    ensures { λ _. ⌜ now (u .exit) ≡ Definition.forward p (now (coefficients .entry)) (now (b .entry)) (now (pivots .entry)) rank (now (u .entry)) ⌝ }
-{
-    for i in 0..rank {
-        u[i] = feasible_one(coefficients, p, m, b, pivots[i], i, &u[..]);
-    }
-}
-
 // The smallest x with Eᵀx = b on the pivot columns: x = Yu.
 pub fn smallest_feasible(
     range: &[f64],
@@ -340,83 +298,9 @@ pub fn smallest_feasible(
         ≡ Definition.smallestFeasible n m (now (range .entry)) (now (coefficients .entry)) (now (b .entry)) (now (pivots .entry)) rank ⌝ }
 {
     let mut u = [0.0; sizes::COLUMNS];
-    let p = pivoting::smaller_of(n, m);
-    forward(coefficients, p, m, b, pivots, rank, &mut u[..rank]);
+    let p = pivot_choice::smaller_of(n, m);
+    substitution::forward(coefficients, p, m, b, pivots, rank, &mut u[..rank]);
     dense::mul_vec(range, n, rank, &u[..rank])
-}
-
-// The terms of row i of T whose multipliers are known, those of the pivots from place `first` on.
-fn known_from(
-    coefficients: &[f64],
-    p: usize,
-    m: usize,
-    pivots: &[usize],
-    rank: usize,
-    i: usize,
-    first: usize,
-    lambda: &[f64],
-) -> f64
-    requires { ⌜ (p * m ≤ length (now coefficients))
-        × (rank ≤ length (now pivots))
-        × Below rank (now pivots) m
-        × (i < p)
-        × (first ≤ rank)
-        × (m ≤ length (now lambda)) ⌝ }
-    ensures { λ r. ⌜ r ≡ Definition.knownFrom p (now (coefficients .entry)) (now (pivots .entry)) rank i first (now (lambda .entry)) ⌝ }
-{
-    let mut known = 0.0;
-    for k in first..rank {
-        let l = pivots[k];
-        known = known + matrix::get(coefficients, p, m, i, l) * lambda[l];
-    }
-    known
-}
-
-fn multiplier_one(
-    coefficients: &[f64],
-    p: usize,
-    m: usize,
-    h: f64,
-    pivots: &[usize],
-    rank: usize,
-    i: usize,
-    lambda: &[f64],
-) -> f64
-    requires { ⌜ (p * m ≤ length (now coefficients))
-        × (rank ≤ length (now pivots))
-        × (rank ≤ p)
-        × Below rank (now pivots) m
-        × (i < rank)
-        × (m ≤ length (now lambda)) ⌝ }
-    ensures { λ r. ⌜ r ≡ Definition.multiplierOne p (now (coefficients .entry)) h (now (pivots .entry)) rank i (now (lambda .entry)) ⌝ }
-{
-    let known = known_from(coefficients, p, m, pivots, rank, i, i + 1, lambda);
-    (h - known) / matrix::get(coefficients, p, m, i, pivots[i])
-}
-
-fn backward(
-    coefficients: &[f64],
-    p: usize,
-    m: usize,
-    h: &[f64],
-    pivots: &[usize],
-    rank: usize,
-    lambda: &mut [f64],
-)
-    requires { ⌜ (p * m ≤ length (now coefficients))
-        × (rank ≤ length (now h))
-        × (rank ≤ length (now pivots))
-        × (rank ≤ p)
-        × Below rank (now pivots) m
-        × (m ≤ length (now lambda)) ⌝ }
-    ensures { λ _. ⌜ now (lambda .exit)
-        ≡ Definition.backward p (now (coefficients .entry)) (now (h .entry)) (now (pivots .entry)) rank (now (lambda .entry)) ⌝ }
-{
-    for t in 0..rank {
-        let i = rank - 1 - t;
-        let j = pivots[i];
-        lambda[j] = multiplier_one(coefficients, p, m, h[i], pivots, rank, i, &lambda[..]);
-    }
 }
 
 // The λ that best solves Eλ = g: Tλ = Yᵀg on the pivot columns, by back substitution, with zero for dependent columns.
@@ -440,9 +324,9 @@ pub fn multipliers(
         ≡ Definition.multipliers n m (now (range .entry)) (now (coefficients .entry)) (now (g .entry)) (now (pivots .entry)) rank ⌝ }
 {
     let mut lambda = [0.0; sizes::COLUMNS];
-    let p = pivoting::smaller_of(n, m);
+    let p = pivot_choice::smaller_of(n, m);
     let h = dense::tr_mul_vec(range, n, rank, g);
-    backward(
+    substitution::backward(
         coefficients,
         p,
         m,

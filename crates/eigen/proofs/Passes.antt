@@ -8,7 +8,8 @@ use Rattle.folds.specs.Fold.{Out, out, pick}
 use Rattle.folds.specs.Part.{two}
 use Rattle.folds.specs.Run.{run, more, run-more, run-done, run-spent}
 use Rattle.arith.specs.Float.{fmul, f2, sqrt}
-use Rattle.eigen.specs.Eigen.{State, pass, sweep, offDiagonal, sweeps}
+use Rattle.rotation.specs.Rotation.{State}
+use Rattle.eigen.specs.Eigen.{pass, sweep, offDiagonal, sweeps}
 
 unfoldable pub Left : ℕ → Float → ℕ → State → Out State
 Left n t i s = run (λ k. pass n t) (λ k z. out false z) (100 - i) i (more s)

@@ -1,5 +1,5 @@
 -- Each list has as many elements as the matrix, so what is written over one is all of it. And from there to the answer.
-use mathlib.Core.Path.{_≡_, sym, ap, _∙_}
+use mathlib.Core.Path.{_≡_, ap, _∙_}
 use mathlib.Core.Bool.{Bool, true, false}
 use mathlib.Core.List.{List}
 use Prim.Native.Nat.{ℕ, _*_}
@@ -9,7 +9,8 @@ use Rattle.folds.specs.Fold.{over, out, pick}
 use Rattle.folds.specs.Tab.{over-whole}
 use Rattle.folds.specs.Part.{two}
 use Rattle.arith.specs.Float.{fmul, f0, epsilon}
-use Rattle.vector.specs.Vector.{norm, amax, allFinite, divided, addScalar, filled}
+use Rattle.reductions.specs.Reductions.{norm, amax, allFinite}
+use Rattle.vector.specs.Vector.{divided, addScalar, filled}
 use Rattle.vector.specs.Laws.{length-divided, length-addScalar, length-filled}
 use Rattle.matrix.specs.Matrix.{identity}
 use Rattle.matrix.specs.Laws.{length-identity}

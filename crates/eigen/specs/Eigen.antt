@@ -2,65 +2,17 @@
 use Prim.Native.Nat.{ℕ, _+_, _*_}
 use mathlib.Core.Bool.{Bool, true, false, not}
 use mathlib.Core.List.{List}
-use lib.Ieee.{Float, binary64, eq, lt, le, isNan, ofBits}
+use lib.Ieee.{Float, eq, lt, le, isNan}
 use Rattle.folds.specs.Fold.{fold, span, pick, tab, tabM, Out, out}
-use Rattle.folds.specs.Part.{Two, two}
+use Rattle.folds.specs.Part.{two}
 use Rattle.folds.specs.Run.{run, Pass, more, done}
 use Rattle.folds.specs.Chosen.{chosen}
-use Rattle.arith.specs.Float.{fadd, fsub, fmul, fdiv, sqrt, f0, f1, f2, fhalf, epsilon, at}
-use Rattle.arith.specs.Scalar.{abs, signum}
-use Rattle.vector.specs.Vector.{norm, amax, allFinite, divided, filled}
-use Rattle.matrix.specs.Matrix.{cell, put, trMul, mul, identity}
-use Rattle.eigen.specs.declared.Turn.{Turn}
-
--- ---- `rotate`
-
--- 1e150
-abbrev pub huge : Float
-huge = ofBits binary64 0x5f13_8d35_2e50_96af
-
--- `let t = if tau.abs() > 1e150 { 0.5 / tau } else { tau.signum() / (tau.abs() + (tau * tau + 1.0).sqrt()) }`
-unfoldable pub tangent : Float → Float
-tangent tau = pick (lt huge (abs tau)) (fdiv fhalf tau) (fdiv (signum tau) (fadd (abs tau) (sqrt (fadd (fmul tau tau) f1))))
-
--- `let c = 1.0 / (t * t + 1.0).sqrt()`, `let s = t * c`
-unfoldable pub turnBy : Float → Turn
-turnBy t = let c = fdiv f1 (sqrt (fadd (fmul t t) f1)) in record { c = c; s = fmul t c }
-
--- `let tau = (a[(q, q)] - a[(p, p)]) / (2.0 * apq)`
-unfoldable pub angle : (n p q : ℕ) (a : List Float) → Turn
-angle n p q a = turnBy (tangent (fdiv (fsub (cell a n q q) (cell a n p p)) (fmul f2 (cell a n p q))))
-
--- `a[(k, p)] = c * akp - s * akq`, `a[(k, q)] = s * akp + c * akq`
-unfoldable pub turnInRow : (n p q : ℕ) → Turn → (k : ℕ) (a : List Float) → List Float
-turnInRow n p q t k a =
-    put (put a n k p (fsub (fmul (t .c) (cell a n k p)) (fmul (t .s) (cell a n k q)))) n k q
-    (fadd (fmul (t .s) (cell a n k p)) (fmul (t .c) (cell a n k q)))
-
--- `a[(p, k)] = c * apk - s * aqk`, `a[(q, k)] = s * apk + c * aqk`
-unfoldable pub turnInColumn : (n p q : ℕ) → Turn → (k : ℕ) (a : List Float) → List Float
-turnInColumn n p q t k a =
-    put (put a n p k (fsub (fmul (t .c) (cell a n p k)) (fmul (t .s) (cell a n q k)))) n q k
-    (fadd (fmul (t .s) (cell a n p k)) (fmul (t .c) (cell a n q k)))
-
-unfoldable pub turnColumns : (n p q : ℕ) → Turn → (a : List Float) → List Float
-turnColumns n p q t a = fold n (turnInRow n p q t) a
-
-unfoldable pub turnRows : (n p q : ℕ) → Turn → (a : List Float) → List Float
-turnRows n p q t a = fold n (turnInColumn n p q t) a
-
--- A ← JᵀAJ, then `a[(p, q)] = 0.0`, `a[(q, p)] = 0.0`
-unfoldable pub turned : (n p q : ℕ) → Turn → (a : List Float) → List Float
-turned n p q t a = put (put (turnRows n p q t (turnColumns n p q t a)) n p q f0) n q p f0
-
--- A and V
-abbrev pub State : Type 0
-State = Two (List Float) (List Float)
-
--- A ← JᵀAJ and V ← VJ; `if apq == 0.0 { return; }`
-unfoldable pub rotate : (n p q : ℕ) → State → State
-rotate n p q (two a v) =
-    pick (eq (cell a n p q) f0) (two a v) (two (turned n p q (angle n p q a) a) (turnColumns n p q (angle n p q a) v))
+use Rattle.arith.specs.Float.{fadd, fmul, sqrt, f0, f2, fhalf, epsilon, at}
+use Rattle.reductions.specs.Reductions.{norm, amax, allFinite}
+use Rattle.vector.specs.Vector.{divided, filled}
+use Rattle.columns.specs.Columns.{cell}
+use Rattle.matrix.specs.Matrix.{trMul, mul, identity}
+use Rattle.rotation.specs.Rotation.{State, rotate}
 
 -- ---- `SymmetricEigen::new`
 

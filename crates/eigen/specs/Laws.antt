@@ -3,8 +3,8 @@ use mathlib.Core.Path.{_≡_, refl}
 use mathlib.Core.Bool.{true, false}
 use mathlib.Core.List.{List}
 use Prim.Native.Nat.{ℕ, zero, suc, _+_, _*_, _≤_}
-use lib.ListN.{length, length-set}
-use lib.Ieee.{Float, eq}
+use lib.ListN.{length}
+use lib.Ieee.{Float}
 use Rattle.folds.specs.Fold.{fold-keep, pick-keep, span, Out, out}
 use Rattle.folds.specs.Tab.{length-tab, length-tabM}
 use Rattle.folds.specs.Part.{two}
@@ -13,10 +13,11 @@ use Rattle.folds.specs.Chosen.{length-chosen, chosen-below}
 use Rattle.arith.specs.Float.{f0}
 use Rattle.vector.specs.Vector.{Below}
 use Rattle.vector.specs.Laws.{length-filled}
-use Rattle.matrix.specs.Matrix.{cell, identity}
+use Rattle.matrix.specs.Matrix.{identity}
 use Rattle.matrix.specs.Laws.{length-identity}
-use Rattle.eigen.specs.declared.Turn.{Turn}
-use Rattle.eigen.specs.Eigen.{State, turnInRow, turnColumns, rotate, sweepRow, sweep, pass, sweeps, Eigen, eigen, nothing, symmetric, values}
+use Rattle.rotation.specs.Rotation.{State, rotate}
+use Rattle.rotation.specs.Laws.{Square, rotate-square}
+use Rattle.eigen.specs.Eigen.{sweepRow, sweep, pass, sweeps, Eigen, eigen, nothing, symmetric, values}
 use Rattle.eigen.specs.Eigen.{answer, given, tolerance, start, jacobi, symmetricEigen, range, null}
 
 pub length-symmetric : (n : ℕ) (r : List Float) → length (symmetric n r) ≡ n * n
@@ -35,20 +36,6 @@ given-eigen l v = refl
 pub given-nothing : (l v : List Float) → given false l v ≡ nothing
 unfolding given
 given-nothing l v = refl
-
-abbrev vectorsOf : State → List Float
-vectorsOf (two a v) = v
-
-abbrev Square : ℕ → State → Type 0
-Square n s = length (vectorsOf s) ≡ n * n
-
-turn-square : (n p q : ℕ) (t : Turn) (v : List Float) → length v ≡ n * n → length (turnColumns n p q t v) ≡ n * n
-unfolding turnColumns turnInRow
-turn-square n p q t v e = fold-keep (λ (a : List Float). length a ≡ n * n) n (turnInRow n p q t) v e (λ k s l h. simp (length-set) h)
-
-rotate-square : (n p q : ℕ) (s : State) → Square n s → Square n (rotate n p q s)
-unfolding rotate
-rotate-square n p q (two a v) e = pick-keep (Square n) (eq (cell a n p q) f0) e (turn-square n p q _ v e)
 
 sweep-square : (n : ℕ) (s : State) → Square n s → Square n (sweep n s)
 unfolding sweep sweepRow span

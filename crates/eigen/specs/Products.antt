@@ -5,7 +5,8 @@ use mathlib.Core.List.{List}
 use Prim.Native.Nat.{ℕ, _*_}
 use lib.Ieee.{Float, eq}
 use Rattle.arith.specs.Float.{f0}
-use Rattle.vector.specs.Vector.{amax, allFinite, divided, addScalar}
+use Rattle.reductions.specs.Reductions.{amax, allFinite}
+use Rattle.vector.specs.Vector.{divided, addScalar}
 use Rattle.vector.specs.Laws.{Holding, zero-holding, zero-twice, quotients-finite, quotients-holding}
 use Rattle.matrix.specs.Identity.{identity-mul, mul-identity}
 use Rattle.eigen.specs.Eigen.{rotated}

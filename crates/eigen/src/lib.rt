@@ -4,6 +4,7 @@ ghost use Prim.Native.Nat.{_≤_, _<_, _*_};
 ghost use lib.ListN.{length};
 ghost use Rattle.folds.specs.Fold.{out, over};
 ghost use Rattle.folds.specs.Part.{two};
+ghost use Rattle.columns.specs.Columns as Columns;
 ghost use Rattle.matrix.specs.Matrix as Matrix;
 ghost use Rattle.eigen.specs.Eigen as Eigen;
 ghost use Rattle.eigen.specs.Products.{Finite};
@@ -11,106 +12,12 @@ ghost use Rattle.eigen.specs.Products.{Finite};
 // Sweeps allowed before giving up.
 const MAX_SWEEPS: usize = 100;
 
-// The cosine and sine of a rotation.
-pub struct Turn {
-    pub c: f64,
-    pub s: f64,
-}
-
-// t = tan θ is the smaller root of t² + 2τt − 1 = 0. When τ is so large that τ² overflows, t ≈ 1 / 2τ.
-fn tangent(tau: f64) -> f64
-    ensures { λ r. ⌜ r ≡ Eigen.tangent tau ⌝ }
-{
-    let size = arith::abs(tau);
-    if size > 1e150 {
-        return 0.5 / tau;
-    }
-    arith::signum(tau) / (size + root::sqrt(tau * tau + 1.0))
-}
-
-fn turn_by(t: f64) -> Turn
-    ensures { λ r. ⌜ r ≡ Eigen.turnBy t ⌝ }
-{
-    let c = 1.0 / root::sqrt(t * t + 1.0);
-    Turn { c: c, s: t * c }
-}
-
-fn angle(a: &[f64], n: usize, p: usize, q: usize) -> Turn
-    requires { ⌜ (n * n ≤ length (now a)) × (p < n) × (q < n) ⌝ }
-    ensures { λ r. ⌜ r ≡ Eigen.angle n p q (now (a .entry)) ⌝ }
-{
-    let tau = (matrix::get(a, n, n, q, q) - matrix::get(a, n, n, p, p))
-        / (2.0 * matrix::get(a, n, n, p, q));
-    turn_by(tangent(tau))
-}
-
-fn turn_in_row(a: &mut [f64], n: usize, p: usize, q: usize, t: Turn, k: usize)
-    requires { ⌜ (n * n ≤ length (now a)) × (p < n) × (q < n) × (k < n) ⌝ }
-    ensures { λ _. ⌜ now (a .exit) ≡ Eigen.turnInRow n p q t k (now (a .entry)) ⌝ }
-{
-    let akp = matrix::get(&a[..], n, n, k, p);
-    let akq = matrix::get(&a[..], n, n, k, q);
-    matrix::put(a, n, n, k, p, t.c * akp - t.s * akq);
-    matrix::put(a, n, n, k, q, t.s * akp + t.c * akq);
-}
-
-fn turn_in_column(a: &mut [f64], n: usize, p: usize, q: usize, t: Turn, k: usize)
-    requires { ⌜ (n * n ≤ length (now a)) × (p < n) × (q < n) × (k < n) ⌝ }
-    ensures { λ _. ⌜ now (a .exit) ≡ Eigen.turnInColumn n p q t k (now (a .entry)) ⌝ }
-{
-    let apk = matrix::get(&a[..], n, n, p, k);
-    let aqk = matrix::get(&a[..], n, n, q, k);
-    matrix::put(a, n, n, p, k, t.c * apk - t.s * aqk);
-    matrix::put(a, n, n, q, k, t.s * apk + t.c * aqk);
-}
-
-fn turn_columns(a: &mut [f64], n: usize, p: usize, q: usize, t: Turn)
-    requires { ⌜ (n * n ≤ length (now a)) × (p < n) × (q < n) ⌝ }
-    ensures { λ _. ⌜ now (a .exit) ≡ Eigen.turnColumns n p q t (now (a .entry)) ⌝ }
-{
-    for k in 0..n {
-        turn_in_row(a, n, p, q, t, k);
-    }
-}
-
-fn turn_rows(a: &mut [f64], n: usize, p: usize, q: usize, t: Turn)
-    requires { ⌜ (n * n ≤ length (now a)) × (p < n) × (q < n) ⌝ }
-    ensures { λ _. ⌜ now (a .exit) ≡ Eigen.turnRows n p q t (now (a .entry)) ⌝ }
-{
-    for k in 0..n {
-        turn_in_column(a, n, p, q, t, k);
-    }
-}
-
-fn turned(a: &mut [f64], n: usize, p: usize, q: usize, t: Turn)
-    requires { ⌜ (n * n ≤ length (now a)) × (p < n) × (q < n) ⌝ }
-    ensures { λ _. ⌜ now (a .exit) ≡ Eigen.turned n p q t (now (a .entry)) ⌝ }
-{
-    turn_columns(a, n, p, q, t);
-    turn_rows(a, n, p, q, t);
-    matrix::put(a, n, n, p, q, 0.0);
-    matrix::put(a, n, n, q, p, 0.0);
-}
-
-// Applies the Jacobi rotation that zeroes a's entry p, q: A ← JᵀAJ and V ← VJ.
-pub fn rotate(a: &mut [f64], v: &mut [f64], n: usize, p: usize, q: usize)
-    requires { ⌜ (n * n ≤ length (now a)) × (n * n ≤ length (now v)) × (p < n) × (q < n) ⌝ }
-    ensures { λ _. ⌜ two (now (a .exit)) (now (v .exit)) ≡ Eigen.rotate n p q (two (now (a .entry)) (now (v .entry))) ⌝ }
-{
-    if matrix::get(&a[..], n, n, p, q) == 0.0 {
-        return;
-    }
-    let t = angle(&a[..], n, p, q);
-    turned(a, n, p, q, t);
-    turn_columns(v, n, p, q, t);
-}
-
 fn sweep_row(a: &mut [f64], v: &mut [f64], n: usize, p: usize)
     requires { ⌜ (n * n ≤ length (now a)) × (n * n ≤ length (now v)) × (p < n) ⌝ }
     ensures { λ _. ⌜ two (now (a .exit)) (now (v .exit)) ≡ Eigen.sweepRow n p (two (now (a .entry)) (now (v .entry))) ⌝ }
 {
     for q in p + 1..n {
-        rotate(a, v, n, p, q);
+        rotation::rotate(a, v, n, p, q);
     }
 }
 
@@ -129,7 +36,7 @@ fn off_row(a: &[f64], n: usize, p: usize, sum: f64) -> f64
 {
     let mut s = sum;
     for q in p + 1..n {
-        let apq = matrix::get(a, n, n, p, q);
+        let apq = columns::get(a, n, n, p, q);
         s = s + apq * apq;
     }
     s
@@ -166,12 +73,12 @@ fn sweeps(a: &mut [f64], v: &mut [f64], n: usize, tolerance: f64) -> bool
 
 fn symmetric_column(r: &[f64], n: usize, j: usize, a: &mut [f64])
     requires { ⌜ (n * n ≤ length (now r)) × (n * n ≤ length (now a)) × (j < n) ⌝ }
-    ensures { λ _. ⌜ now (a .exit) ≡ Matrix.putColumn n n j (λ i. Eigen.mean n (now (r .entry)) i j) (now (a .entry)) ⌝ }
+    ensures { λ _. ⌜ now (a .exit) ≡ Columns.putColumn n n j (λ i. Eigen.mean n (now (r .entry)) i j) (now (a .entry)) ⌝ }
 {
     for i in 0..n {
-        let rij = matrix::get(r, n, n, i, j);
-        let rji = matrix::get(r, n, n, j, i);
-        matrix::put(a, n, n, i, j, (rij + rji) * 0.5);
+        let rij = columns::get(r, n, n, i, j);
+        let rji = columns::get(r, n, n, j, i);
+        columns::put(a, n, n, i, j, (rij + rji) * 0.5);
     }
 }
 
@@ -203,7 +110,7 @@ fn eigenvalues(a: &[f64], n: usize, scale: f64, values: &mut [f64])
     ensures { λ _. ⌜ now (values .exit) ≡ over (Eigen.values n (now (a .entry)) scale) (now (values .entry)) ⌝ }
 {
     for i in 0..n {
-        values[i] = matrix::get(a, n, n, i, i) * scale;
+        values[i] = columns::get(a, n, n, i, i) * scale;
     }
 }
 
@@ -220,7 +127,7 @@ fn jacobi(
     ensures { λ ok. ⌜ Eigen.given ok (now (values .exit)) (now (vectors .exit)) ≡ Eigen.jacobi n (now (a .entry)) scale ⌝ }
 {
     start(a, n, scale, r, vectors);
-    let tolerance = arith::EPSILON * vector::norm(&a[..], a.len());
+    let tolerance = arith::EPSILON * reductions::norm(&a[..], a.len());
     if sweeps(a, vectors, n, tolerance) {
         eigenvalues(&a[..], n, scale, values);
         return true;
@@ -241,10 +148,10 @@ pub fn symmetric_eigen(
     ensures { λ ok. ⌜ Eigen.given ok (now (values .exit)) (now (vectors .exit)) ≡ Eigen.symmetricEigen n (now (a .entry)) ⌝ }
 {
     let count = a.len();
-    if !vector::all_finite(&a[..], count) {
+    if !reductions::all_finite(&a[..], count) {
         return false;
     }
-    let scale = vector::amax(&a[..], count);
+    let scale = reductions::amax(&a[..], count);
     if scale == 0.0 {
         vector::fill(values, n, 0.0);
         matrix::identity(vectors, n);

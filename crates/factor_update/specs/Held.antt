@@ -1,42 +1,19 @@
 -- `updated` with the held set as a mark for each of the o originals while it changes: the list is the marked ones in rising order, so a variable's
 -- position is the number of marks below it. `Lists.antt` has that this is `Factor.updated`.
-use Prim.Native.Nat.{ℕ, _+_, _-_}
+use Prim.Native.Nat.{ℕ}
 use mathlib.Core.Bool.{Bool, true, false}
 use mathlib.Core.List.{List}
 use lib.ListN.{length, set}
 use lib.Ieee.{Float}
-use Rattle.folds.specs.Fold.{fold, walk, pick, Out, out}
+use Rattle.folds.specs.Fold.{walk, pick, Out, out}
 use Rattle.folds.specs.Marks.{marked, marks, rising, place}
 use Rattle.sizes.specs.Sizes as Sizes
-use Rattle.matrix.specs.Matrix.{index}
-use Rattle.triangular.specs.Triangular.{positiveDefinite}
-use Rattle.update.specs.Update.{removeColumn, insertColumn}
-use Rattle.factor_update.specs.Factor.{afresh, columnOn}
-
--- the marks, and the factor of the block on the marked ones
-pub record Held : Type 0 where
-  pub marks : List Bool
-  pub factor : List Float
-
-abbrev pub held : (s : List Bool) (l : List Float) → Held
-held s l = record { marks = s; factor = l }
-
--- how many of the listed are not marked
-unfoldable pub countIfNew : (held : List Bool) (i m : ℕ) → ℕ
-countIfNew held i m = pick (marked held i) m (m + 1)
-
-unfoldable pub joining : (held : List Bool) (indices : List ℕ) → ℕ
-joining held indices = fold (length indices) (λ t. countIfNew held (index indices t)) 0
-
--- ---- leaving, the last first
-unfoldable pub left : (o i : ℕ) → Held → Held
-left o i s = held (set (s .marks) i false) (removeColumn (place (s .marks) o) (place (s .marks) i) (s .factor))
-
-unfoldable pub leaveOne : (o : ℕ) (wanted : List Bool) (i : ℕ) → Held → Held
-leaveOne o wanted i s = pick (marked (s .marks) i) (pick (marked wanted i) s (left o i s)) s
-
-unfoldable pub leaving : (o : ℕ) (wanted : List Bool) → Held → Held
-leaving o wanted s = fold o (λ t. leaveOne o wanted (o - 1 - t)) s
+use Rattle.cholesky.specs.Cholesky.{positiveDefinite}
+use Rattle.update.specs.Update.{insertColumn}
+use Rattle.variable_set.specs.Joining.{afresh}
+use Rattle.variable_set.specs.Marked.{joining}
+use Rattle.leaving.specs.Held.{Held, held, leaving}
+use Rattle.factor_update.specs.Factor.{columnOn}
 
 -- ---- joining, the first first, until a pivot fails
 unfoldable pub joined : (q : List Float) (n o i : ℕ) → Held → Held

@@ -1,7 +1,6 @@
 pub mod Factor
-pub mod Room
+pub mod Block
 pub mod Held
 pub mod Laws
 pub mod Lists
 pub mod Sound
-pub mod Known

@@ -3,112 +3,39 @@ use mathlib.Core.Path.{_≡_, refl, sym, ap, subst, _∙_}
 use mathlib.Core.Bool.{Bool, true, false}
 use mathlib.Core.List.{List}
 use mathlib.Core.Logic.{_⊎_, inl, inr, ⊎-elim}
-use Prim.Native.Nat.{ℕ, zero, suc, _-_, _<_, _≤_}
+use Prim.Native.Nat.{ℕ, zero, suc, _<_, _≤_}
 use native.Mathlib.Nat.{eq-or-lt-of-le, le-of-suc-le-suc, lt-of-lt-of-le}
 use native.Mathlib.Omega.{arith}
 use lib.Dec.{eqb, ltb}
-use lib.ListN.{length, set, getD, length-set}
+use lib.ListN.{length, set, length-set}
 use lib.Seq.{getD-set-same, getD-set-other}
 use borrow.Author.Tests.{lt-ltb, le-ltb, eq-eqb, ne-eqb}
 use lib.Ieee.{Float}
-use Rattle.folds.specs.Fold.{fold, fold-same, walk, then, pick, pick-keep, both, both-yes, both-first, both-second, false-true, Out, out}
-use Rattle.folds.specs.Part.{Two, two}
+use Rattle.folds.specs.Fold.{walk, then, pick, both, both-yes, both-first, both-second, false-true, Out, out}
+use Rattle.folds.specs.Part.{Two}
 use Rattle.folds.specs.Tab.{length-tab}
 use Rattle.folds.specs.Chosen.{chosen, chosen-same, chosen-below, chosen-at, chosen-passes, count-one, count-none}
-use Rattle.folds.specs.Marks.{contains, marked, marks, rising, place, remove}
-use Rattle.folds.specs.Marks.{place-one, place-none, place-past, place-held, contains-chosen, marked-chosen, marks-chosen}
-use Rattle.folds.specs.Marks.{rising-removed, rising-inserted, rising-at}
+use Rattle.folds.specs.Marks.{contains, marked, marks, rising, place}
+use Rattle.folds.specs.Marks.{place-held, marks-chosen, rising-inserted, rising-at}
 use Rattle.sizes.specs.Sizes as Sizes
 use Rattle.matrix.specs.Matrix.{index}
 use Rattle.folds.specs.Decide.{lt-or-le, same-or-not}
-use Rattle.triangular.specs.Triangular.{positiveDefinite}
-use Rattle.update.specs.Update.{removeColumn}
-use Rattle.factor_update.specs.Factor.{Rising, afresh, leaveAt, getIs, joinedAt, joinAt}
+use Rattle.cholesky.specs.Cholesky.{positiveDefinite}
+use Rattle.variable_set.specs.Rising.{Rising}
+use Rattle.variable_set.specs.Joining.{afresh}
+use Rattle.variable_set.specs.Joining as Joining
+use Rattle.variable_set.specs.Marked.{joining}
+use Rattle.variable_set.specs.Laws.{joining-same}
+use Rattle.leaving.specs.Leaving as Leaving
+use Rattle.leaving.specs.Held.{Held, held, leaving}
+use Rattle.leaving.specs.Lists.{Wide, source, wanted, wanted-is, leaving-same, left-wanted}
+use Rattle.factor_update.specs.Factor.{getIs, joinedAt, joinAt}
 use Rattle.factor_update.specs.Factor as Factor
-use Rattle.factor_update.specs.Held.{Held, held, countIfNew, joining, left, leaveOne, leaving, joined, tested, joinOne, joins, factorOf, updated}
-use Rattle.factor_update.specs.Laws.{marked-marks}
-
--- ---- a loop that goes down
-unfoldable down : {A : Type 0} → ℕ → (ℕ → A → A) → A → A
-down zero f a = a
-down (suc n) f a = down n f (f n a)
-
-fold-first : {A : Type 0} (n : ℕ) (f : ℕ → A → A) (a : A) → fold (suc n) f a ≡ fold n (λ t. f (suc t)) (f 0 a)
-unfolding fold
-fold-first zero f a = refl
-fold-first (suc n) f a = ap (f (suc n)) (fold-first n f a)
-
-fold-down : {A : Type 0} (n : ℕ) (f : ℕ → A → A) (a : A) → fold n (λ t. f (n - 1 - t)) a ≡ down n f a
-unfolding down
-fold-down zero f a = unfold fold in refl
-fold-down (suc n) f a =
-    let z : suc n - 1 - 0 ≡ n = omega arith in
-    fold-first n (λ t. f (suc n - 1 - t)) a
-    ∙ rw z
-    (fold-same n (λ t. f (suc n - 1 - suc t)) (λ t. f (n - 1 - t)) (f n a)
-    (λ t x l. let y : suc n - 1 - suc t ≡ n - 1 - t = omega arith in rw y)
-    ∙ fold-down n f (f n a))
-
--- ---- the marks as the source's list
-abbrev pub source : (o : ℕ) → Held → Two (List ℕ) (List Float)
-source o s = two (rising o (s .marks)) (s .factor)
-
--- what one step of `leaving` keeps
-abbrev Wide : Held → Type 0
-Wide s = length (s .marks) ≡ Sizes.originals
-
-leave-kept : (o n : ℕ) (wanted : List Bool) (s : Held) → Wide s →
-    Wide (leaveOne o wanted n s) × (place (leaveOne o wanted n s .marks) n ≡ place (s .marks) n)
-unfolding leaveOne left
-leave-kept o n wanted s k =
-    let Kept : Held → Type 0 = λ x. Wide x × (place (x .marks) n ≡ place (s .marks) n) in
-    pick-keep Kept (marked (s .marks) n) {x = pick (marked wanted n) s (left o n s)} {y = s}
-    (pick-keep Kept (marked wanted n) {x = s} {y = left o n s} (k, refl) (simp length-set k, place-past (s .marks) n n false (omega arith)))
-    (k, refl)
+use Rattle.factor_update.specs.Held.{joined, tested, joinOne, joins, factorOf, updated}
 
 module _ (o : ℕ) (few : o ≤ Sizes.originals) (w : ℕ → Bool) where
-  unfoldable pub wanted : List Bool
-  wanted = marks Sizes.originals (chosen o w)
-
-  wanted-is : (n : ℕ) → n < o → marked wanted n ≡ w n
-  unfolding wanted
-  wanted-is n h = marked-chosen Sizes.originals o w n few h
-
-  leave-held : (n : ℕ) (s : Held) → n < o → Wide s → marked (s .marks) n ≡ true →
-      source o (leaveOne o wanted n s) ≡ leaveAt (chosen o w) (place (s .marks) n) (source o s)
-  unfolding leaveOne leaveAt pick left
-  leave-held n s h k e = rw (e, wanted-is n h, rising-at o n (s .marks) h e, contains-chosen o w n h) (go (w n))
-    where
-      go : (b : Bool) → let p = place (s .marks) n in let list = rising o (s .marks) in
-          source o (pick b s (left o n s)) ≡ pick b (source o s) (two (remove p list) (removeColumn (length list) p (s .factor)))
-      go true = refl
-      go false = unfold place in rw (rising-removed o n (s .marks) h (omega arith) e)
-
-  leave-other : (n : ℕ) (s : Held) → marked (s .marks) n ≡ false → leaveOne o wanted n s ≡ s
-  unfolding leaveOne pick
-  leave-other n s e = rw e
-
-  leave-same : (n : ℕ) (s : Held) → n ≤ o → Wide s →
-      source o (down n (leaveOne o wanted) s) ≡ down (place (s .marks) n) (leaveAt (chosen o w)) (source o s)
-  unfolding down
-  leave-same zero s h k = unfold place rising chosen in refl
-  leave-same (suc n) s h k =
-      let kept = leave-kept o n wanted s k in
-      leave-same n (leaveOne o wanted n s) (omega arith) (kept .0) ∙ rw (kept .1) (go (marked (s .marks) n) refl)
-    where
-      go : (b : Bool) → marked (s .marks) n ≡ b →
-          down (place (s .marks) n) (leaveAt (chosen o w)) (source o (leaveOne o wanted n s))
-          ≡ down (place (s .marks) (suc n)) (leaveAt (chosen o w)) (source o s)
-      go true e = rw (place-one (s .marks) n e, leave-held n s (omega arith) k e)
-      go false e = rw (place-none (s .marks) n e, leave-other n s e)
-
-  -- `leaving` on the marks of a list is the source's loop on the list
-  leaving-same : (s : Held) → Wide s →
-      source o (leaving o (marks Sizes.originals (chosen o w)) s) ≡ Factor.leaving (chosen o w) (rising o (s .marks)) (s .factor)
-  unfolding leaving Factor.leaving wanted
-  leaving-same s k =
-      rw (fold-down o (leaveOne o wanted) s, fold-down (length (rising o (s .marks))) (leaveAt (chosen o w)) (source o s))
-      (unfold place in leave-same o s (omega arith) k)
+  abbrev want : List Bool
+  want = wanted o few w
 
   -- ---- joining: below n the marks are those wanted, and none is held that is not wanted
   pub record Agree (n : ℕ) (s : Held) : Type 0 where
@@ -153,10 +80,10 @@ module _ (o : ℕ) (few : o ≤ Sizes.originals) (w : ℕ → Bool) where
   joined-same q m n s h k e = unfold place in rw (← rising-inserted o n (s .marks) h (omega arith) e)
 
   join-step : (q : List Float) (m n : ℕ) (s : Held) → n < o → Agree n s → w n ≡ true →
-      sourceOut (joinOne q m o wanted n s) ≡ joinAt q m (chosen o w) (length (chosen n w)) (source o s)
+      sourceOut (joinOne q m o want n s) ≡ joinAt q m (chosen o w) (length (chosen n w)) (source o s)
   unfolding joinOne joinAt
   join-step q m n s h a f =
-      let z : marked wanted n ≡ true = wanted-is n h ∙ f in
+      let z : marked want n ≡ true = wanted-is o few w n h ∙ f in
       rw (z, chosen-at o w n h f, position-is n s a) (go (marked (s .marks) n) refl)
     where
       go : (b : Bool) → marked (s .marks) n ≡ b → let p = place (s .marks) n in
@@ -191,9 +118,9 @@ module _ (o : ℕ) (few : o ≤ Sizes.originals) (w : ℕ → Bool) where
             (same-or-not j n);
       }
 
-  join-agree : (q : List Float) (m n : ℕ) (s : Held) → n < o → Agree n s → AgreeOut (suc n) (joinOne q m o wanted n s)
+  join-agree : (q : List Float) (m n : ℕ) (s : Held) → n < o → Agree n s → AgreeOut (suc n) (joinOne q m o want n s)
   unfolding joinOne
-  join-agree q m n s h a = rw (wanted-is n h) (go (w n) (marked (s .marks) n) refl refl)
+  join-agree q m n s h a = rw (wanted-is o few w n h) (go (w n) (marked (s .marks) n) refl refl)
     where
       go : (c b : Bool) → w n ≡ c → marked (s .marks) n ≡ b →
           AgreeOut (suc n) (pick c (pick b (out true s) (tested o (joined q m o n s))) (out true s))
@@ -205,80 +132,46 @@ module _ (o : ℕ) (few : o ≤ Sizes.originals) (w : ℕ → Bool) where
       go false false f e = unfold pick in extend n s a (e ∙ sym f)
 
   -- a turn of the walk
-  turn-agree : (q : List Float) (m n : ℕ) (r : Out Held) → n < o → AgreeOut n r → AgreeOut (suc n) (then (joinOne q m o wanted n) r)
+  turn-agree : (q : List Float) (m n : ℕ) (r : Out Held) → n < o → AgreeOut n r → AgreeOut (suc n) (then (joinOne q m o want n) r)
   turn-agree q m n (out true s) h a = join-agree q m n s h a
   turn-agree q m n (out false s) h a = tt
 
   turn-wanted : (q : List Float) (m n : ℕ) (r : Out Held) → n < o → AgreeOut n r → w n ≡ true →
-      sourceOut (then (joinOne q m o wanted n) r) ≡ then (joinAt q m (chosen o w) (length (chosen n w))) (sourceOut r)
+      sourceOut (then (joinOne q m o want n) r) ≡ then (joinAt q m (chosen o w) (length (chosen n w))) (sourceOut r)
   turn-wanted q m n (out true s) h a f = join-step q m n s h a f
   turn-wanted q m n (out false s) h a f = refl
 
-  turn-other : (q : List Float) (m n : ℕ) (r : Out Held) → n < o → w n ≡ false → sourceOut (then (joinOne q m o wanted n) r) ≡ sourceOut r
+  turn-other : (q : List Float) (m n : ℕ) (r : Out Held) → n < o → w n ≡ false → sourceOut (then (joinOne q m o want n) r) ≡ sourceOut r
   unfolding joinOne pick
-  turn-other q m n (out true s) h f = let z : marked wanted n ≡ false = wanted-is n h ∙ f in rw z
+  turn-other q m n (out true s) h f = let z : marked want n ≡ false = wanted-is o few w n h ∙ f in rw z
   turn-other q m n (out false s) h f = refl
 
-  pub join-agrees : (q : List Float) (m n : ℕ) (s : Held) → n ≤ o → Agree 0 s → AgreeOut n (walk n (joinOne q m o wanted) s)
+  pub join-agrees : (q : List Float) (m n : ℕ) (s : Held) → n ≤ o → Agree 0 s → AgreeOut n (walk n (joinOne q m o want) s)
   unfolding walk
   join-agrees q m zero s h a = a
-  join-agrees q m (suc n) s h a = turn-agree q m n (walk n (joinOne q m o wanted) s) (omega arith) (join-agrees q m n s (omega arith) a)
+  join-agrees q m (suc n) s h a = turn-agree q m n (walk n (joinOne q m o want) s) (omega arith) (join-agrees q m n s (omega arith) a)
 
   join-same : (q : List Float) (m n : ℕ) (s : Held) → n ≤ o → Agree 0 s →
-      sourceOut (walk n (joinOne q m o wanted) s) ≡ walk (length (chosen n w)) (joinAt q m (chosen o w)) (source o s)
+      sourceOut (walk n (joinOne q m o want) s) ≡ walk (length (chosen n w)) (joinAt q m (chosen o w)) (source o s)
   unfolding walk
   join-same q m zero s h a = unfold chosen in refl
   join-same q m (suc n) s h a = go (join-same q m n s (omega arith) a) (w n) refl
     where
-      go : sourceOut (walk n (joinOne q m o wanted) s) ≡ walk (length (chosen n w)) (joinAt q m (chosen o w)) (source o s) → (b : Bool) →
+      go : sourceOut (walk n (joinOne q m o want) s) ≡ walk (length (chosen n w)) (joinAt q m (chosen o w)) (source o s) → (b : Bool) →
           w n ≡ b →
-          sourceOut (then (joinOne q m o wanted n) (walk n (joinOne q m o wanted) s))
+          sourceOut (then (joinOne q m o want n) (walk n (joinOne q m o want) s))
           ≡ walk (length (chosen (suc n) w)) (joinAt q m (chosen o w)) (source o s)
       go e true f =
           rw (count-one n w f)
-          (turn-wanted q m n (walk n (joinOne q m o wanted) s) (omega arith) (join-agrees q m n s (omega arith) a) f
+          (turn-wanted q m n (walk n (joinOne q m o want) s) (omega arith) (join-agrees q m n s (omega arith) a) f
           ∙ ap (then (joinAt q m (chosen o w) (length (chosen n w)))) e)
-      go e false f = rw (count-none n w f) (turn-other q m n (walk n (joinOne q m o wanted) s) (omega arith) f ∙ e)
+      go e false f = rw (count-none n w f) (turn-other q m n (walk n (joinOne q m o want) s) (omega arith) f ∙ e)
 
   -- ---- what is left after `leaving` is wanted
-  record Left (n : ℕ) (s : Held) : Type 0 where
-    wide : Wide s
-    from : (j : ℕ) → n ≤ j → j < o → marked (s .marks) j ≡ true → w j ≡ true
-
-  left-one : (n : ℕ) (s : Held) → n < o → Left (suc n) s → Left n (leaveOne o wanted n s)
-  unfolding leaveOne
-  left-one n s h a = rw (wanted-is n h) (go (marked (s .marks) n) (w n) refl refl)
-    where
-      stays : (marked (s .marks) n ≡ true → w n ≡ true) → Left n s
-      stays g =
-          record {
-            wide = a .wide;
-            from = λ j l k e. ⊎-elim (λ (z : n ≡ j). rw (← z) (g (rw (← z) at e))) (λ (q : n < j). a .from j q k e) (eq-or-lt-of-le l);
-          }
-
-      go : (b c : Bool) → marked (s .marks) n ≡ b → w n ≡ c → Left n (pick b (pick c s (left o n s)) s)
-      go true true e f = unfold pick in stays (λ _. f)
-      go true false e f = unfold pick left in
-          record {
-            wide = simp length-set (a .wide);
-            from = λ j l k d. ⊎-elim
-                (λ (z : n ≡ j). absurd (false-true (sym (getD-set-same (s .marks) n false false (omega (arith, a .wide))) ∙ (rw (← z) at d))))
-                (λ (q : n < j). a .from j q k (sym (getD-set-other (s .marks) n j false false (λ z. omega arith)) ∙ d)) (eq-or-lt-of-le l);
-          }
-      go false c e f = unfold pick in stays (λ d. absurd (false-true (sym e ∙ d)))
-
-  left-down : (n : ℕ) (s : Held) → n ≤ o → Left n s → Left 0 (down n (leaveOne o wanted) s)
-  unfolding down
-  left-down zero s h a = a
-  left-down (suc n) s h a = left-down n (leaveOne o wanted n s) (omega arith) (left-one n s h a)
-
-  pub left-agree : (s : Held) → length (s .marks) ≡ Sizes.originals → Agree 0 (leaving o wanted s)
-  unfolding leaving
+  pub left-agree : (s : Held) → length (s .marks) ≡ Sizes.originals → Agree 0 (leaving o want s)
   left-agree s k =
-      let none : (j : ℕ) → o ≤ j → j < o → marked (s .marks) j ≡ true → w j ≡ true = λ j l h e. absurd (omega arith) in
-      let a : Left 0 (down o (leaveOne o wanted) s) = left-down o s (omega arith) (record { wide = k; from = none }) in
-      rw (fold-down o (leaveOne o wanted) s)
-      (record { wide = a .wide; below = λ j h. absurd (omega arith); within = λ j h e. a .from j (omega arith) h e })
+      let a = left-wanted o few w s k in
+      record { wide = a .wide; below = λ j h. absurd (omega arith); within = λ j h e. a .from j (omega arith) h e }
 
   -- ---- the whole
   factor-out : (r : Out Held) → factorOf r ≡ Factor.factorOf (sourceOut r)
@@ -286,31 +179,24 @@ module _ (o : ℕ) (few : o ≤ Sizes.originals) (w : ℕ → Bool) where
   factor-out (out ok s) = refl
 
   joins-same : (q : List Float) (m : ℕ) (s : Held) → Agree 0 s →
-      factorOf (joins q m o wanted s) ≡ Factor.factorOf (Factor.joins q m (chosen o w) (source o s))
+      factorOf (joins q m o want s) ≡ Factor.factorOf (Factor.joins q m (chosen o w) (source o s))
   unfolding joins Factor.joins
-  joins-same q m s a = factor-out (walk o (joinOne q m o wanted) s) ∙ ap Factor.factorOf (join-same q m o s (omega arith) a)
-
--- ---- how many join
-joining-same : (from indices : List ℕ) → ((t : ℕ) → t < length indices → index indices t < Sizes.originals) →
-    joining (marks Sizes.originals from) indices ≡ Factor.joining from indices
-unfolding joining Factor.joining countIfNew
-joining-same from indices b =
-    fold-same (length indices) _ _ 0 (λ t m h. rw (marked-marks Sizes.originals from (index indices t) (b t h)))
+  joins-same q m s a = factor-out (walk o (joinOne q m o want) s) ∙ ap Factor.factorOf (join-same q m o s (omega arith) a)
 
 -- of rising lists, what the marks give is what the source's lists give
 module _ (q : List Float) (n o : ℕ) (few : o ≤ Sizes.originals) where
   chosen-updated : (r w : ℕ → Bool) (l : List Float) →
       updated q n o (marks Sizes.originals (chosen o r)) l (chosen o w) ≡ Factor.updated q n (chosen o r) l (chosen o w)
-  unfolding updated Factor.updated wanted
+  unfolding updated Factor.updated
   chosen-updated r w l =
       let s : Held = held (marks Sizes.originals (chosen o r)) l in
       let k : length (marks Sizes.originals (chosen o r)) ≡ Sizes.originals = unfold marks in length-tab Sizes.originals (contains (chosen o r)) in
-      let e : source o (leaving o (marks Sizes.originals (chosen o w)) s) ≡ Factor.leaving (chosen o w) (chosen o r) l =
+      let e : source o (leaving o (marks Sizes.originals (chosen o w)) s) ≡ Leaving.leaving (chosen o w) (chosen o r) l =
       leaving-same o few w s k ∙ rw (marks-chosen Sizes.originals o r few) in
-      let j : joining (marks Sizes.originals (chosen o r)) (chosen o w) ≡ Factor.joining (chosen o r) (chosen o w) =
+      let j : joining (marks Sizes.originals (chosen o r)) (chosen o w) ≡ Joining.joining (chosen o r) (chosen o w) =
       joining-same (chosen o r) (chosen o w) (λ t h. lt-of-lt-of-le (chosen-below o w t h) few) in
       rw j
-      (ap (λ x. pick (afresh (Factor.joining (chosen o r) (chosen o w)) (length (chosen o w))) (out false l) x)
+      (ap (λ x. pick (afresh (Joining.joining (chosen o r) (chosen o w)) (length (chosen o w))) (out false l) x)
       (joins-same o few w q n (leaving o (marks Sizes.originals (chosen o w)) s) (left-agree o few w s k)
       ∙ ap (λ x. Factor.factorOf (Factor.joins q n (chosen o w) x)) e))
 

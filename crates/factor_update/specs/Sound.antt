@@ -1,56 +1,26 @@
--- From a factor whose pivots pass the floor or are NaN, `updated` gives one of that kind: no kept factor has a 0 on its diagonal, and no joining
--- divides by an older pivot that is 0.
+-- From a factor whose pivots pass the floor or are NaN, `updated` gives one of that kind: no kept factor has a 0 on its diagonal.
 use mathlib.Core.Path.{_≡_, refl, _∙_}
 use mathlib.Core.Bool.{Bool, true, false}
 use mathlib.Core.List.{List}
-use Prim.Native.Nat.{ℕ, zero, suc, _+_, _-_, _<_, _≤_}
+use Prim.Native.Nat.{ℕ, zero, suc, _≤_}
 use native.Mathlib.Omega.{arith}
-use lib.ListN.{length, set, length-set}
+use lib.ListN.{length, length-set}
 use lib.Ieee.{Float}
-use Rattle.folds.specs.Fold.{fold-keep, walk, then, pick, pick-keep, false-true, Out, out}
+use Rattle.folds.specs.Fold.{walk, then, pick, false-true, Out, out}
 use Rattle.folds.specs.Tab.{length-tab}
 use Rattle.folds.specs.Chosen.{chosen}
-use Rattle.folds.specs.Marks.{contains, marked, marks, place, place-left, marks-chosen}
+use Rattle.folds.specs.Marks.{contains, marked, marks, place, marks-chosen}
 use Rattle.sizes.specs.Sizes as Sizes
-use Rattle.triangular.specs.Triangular.{positiveDefinite, regular}
-use Rattle.triangular.specs.Pivots.{Sounds, definite-sounds, sounds-regular}
-use Rattle.update.specs.Leaving.{removed-sound}
-use Rattle.factor_update.specs.Factor.{Rising, afresh}
+use Rattle.cholesky.specs.Cholesky.{positiveDefinite}
+use Rattle.cholesky.specs.Pivots.{Sounds, definite-sounds}
+use Rattle.variable_set.specs.Rising.{Rising}
+use Rattle.variable_set.specs.Joining.{afresh}
+use Rattle.variable_set.specs.Marked.{joining}
+use Rattle.leaving.specs.Held.{Held, held, leaving}
+use Rattle.leaving.specs.Sound.{Fine, leaving-fine}
 use Rattle.factor_update.specs.Factor as Factor
-use Rattle.factor_update.specs.Held.{Held, held, joining, left, leaveOne, leaving, joined, tested, joinOne, joins, factorOf, updated}
-use Rattle.factor_update.specs.Lists.{AgreeOut, wanted, join-agrees, left-agree, position-is, updated-same}
-
-pub record Fine (o : ℕ) (s : Held) : Type 0 where
-  pub wide : length (s .marks) ≡ Sizes.originals
-  pub sound : Sounds (place (s .marks) o) (s .factor)
-
--- ---- leaving
-module _ (o : ℕ) (few : o ≤ Sizes.originals) where
-  left-fine : (i : ℕ) (s : Held) → i < o → marked (s .marks) i ≡ true → Fine o s → Fine o (left o i s)
-  unfolding left
-  left-fine i s h e f =
-      let w : place (s .marks) o ≡ place (set (s .marks) i false) o + 1 = place-left (s .marks) i o h (omega (arith, f .wide)) e in
-      let z : place (set (s .marks) i false) o ≡ place (s .marks) o - 1 = omega arith in
-      record {
-        wide = simp length-set (f .wide);
-        sound = rw z (removed-sound (place (s .marks) o) (place (s .marks) i) (s .factor) (omega arith) (f .sound));
-      }
-
-  one-fine : (want : List Bool) (i : ℕ) (s : Held) → i < o → Fine o s → Fine o (leaveOne o want i s)
-  unfolding leaveOne
-  one-fine want i s h f = go (marked (s .marks) i) refl
-    where
-      go : (b : Bool) → marked (s .marks) i ≡ b → Fine o (pick b (pick (marked want i) s (left o i s)) s)
-      go true e = unfold pick in pick-keep (Fine o) (marked want i) {x = s} {y = left o i s} f (left-fine i s h e f)
-      go false e = unfold pick in f
-
-  leaving-fine : (want : List Bool) (s : Held) → Fine o s → Fine o (leaving o want s)
-  unfolding leaving
-  leaving-fine want s f = fold-keep (Fine o) o (λ t. leaveOne o want (o - 1 - t)) s f (λ t x l q. one-fine want (o - 1 - t) x (omega arith) q)
-
-  -- what joins divides by the pivots of those that stay, and none is 0
-  pub leaving-regular : (want : List Bool) (s : Held) → Fine o s → regular (leaving o want s .factor) (place (leaving o want s .marks) o) ≡ true
-  leaving-regular want s f = sounds-regular (place (leaving o want s .marks) o) (leaving o want s .factor) (leaving-fine want s f .sound)
+use Rattle.factor_update.specs.Held.{joined, tested, joinOne, joins, factorOf, updated}
+use Rattle.factor_update.specs.Lists.{AgreeOut, join-agrees, left-agree, position-is, updated-same}
 
 -- ---- joining
 abbrev FineOut : ℕ → Out Held → Type 0
@@ -97,7 +67,7 @@ module _ (o : ℕ) (few : o ≤ Sizes.originals) (w : ℕ → Bool) where
 
   chosen-sound : (q : List Float) (n : ℕ) (r : ℕ → Bool) (l m : List Float) → Sounds (length (chosen o r)) l →
       updated q n o (marks Sizes.originals (chosen o r)) l (chosen o w) ≡ out true m → Sounds (length (chosen o w)) m
-  unfolding updated joins wanted
+  unfolding updated joins
   chosen-sound q n r l m h e = go (afresh (joining (marks Sizes.originals (chosen o r)) (chosen o w)) (length (chosen o w))) e
     where
       want : List Bool

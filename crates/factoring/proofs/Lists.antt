@@ -1,4 +1,4 @@
--- The marked variables, written over the start of an array by `factor_update::rising`: the part that is lent is their list.
+-- The marked variables, written over the start of an array by `variable_set::rising`: the part that is lent is their list.
 use mathlib.Core.Path.{_≡_, sym}
 use mathlib.Core.Bool.{Bool}
 use mathlib.Core.List.{List}

@@ -11,10 +11,11 @@ use Rattle.folds.specs.Fold.{all, over, pick, Out, out}
 use Rattle.folds.specs.Marks.{contains, rising}
 use Rattle.sizes.specs.Sizes as Sizes
 use Rattle.matrix.specs.Matrix.{selectRows, selectColumns, index}
-use Rattle.triangular.specs.Triangular.{cholesky, positiveDefinite}
-use Rattle.triangular.specs.Pivots.{Sounds}
-use Rattle.factor_update.specs.Factor.{Rising, updated}
-use Rattle.factor_update.specs.Room.{Block}
+use Rattle.cholesky.specs.Cholesky.{cholesky, positiveDefinite}
+use Rattle.cholesky.specs.Pivots.{Sounds}
+use Rattle.variable_set.specs.Rising.{Rising}
+use Rattle.factor_update.specs.Factor.{updated}
+use Rattle.factor_update.specs.Block.{Block}
 use Rattle.factoring.specs.declared.Factoring.{Factoring}
 
 -- the variables of the factor's block, and those of the last singular one

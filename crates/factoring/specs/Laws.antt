@@ -8,9 +8,11 @@ use lib.ListN.{length}
 use lib.Ieee.{Float}
 use Rattle.folds.specs.Fold.{over, pick-keep, false-true, Out, out}
 use Rattle.sizes.specs.Sizes as Sizes
-use Rattle.triangular.specs.Triangular.{cholesky, positiveDefinite, regular}
-use Rattle.triangular.specs.Pivots.{Sounds, definite-sounds, sounds-regular}
-use Rattle.factor_update.specs.Factor.{Rising}
+use Rattle.cholesky.specs.Cholesky.{cholesky, positiveDefinite}
+use Rattle.cholesky.specs.Pivots.{Sounds, definite-sounds}
+use Rattle.triangular.specs.Triangular.{regular}
+use Rattle.triangular.specs.Pivots.{sounds-regular}
+use Rattle.variable_set.specs.Rising.{Rising}
 use Rattle.factor_update.specs.Sound.{updated-sound}
 use Rattle.factoring.specs.Kept.{Kept, Factor, factor, new, reset, withFactor, withSingular, submatrix, passing, definite, fresh, kept}
 use Rattle.factoring.specs.Kept.{containsSingular, afresh, lastUpdated, settled, update, listOf, optionOf, keptOf}

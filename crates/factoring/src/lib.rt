@@ -7,8 +7,9 @@ ghost use lib.ListN.{length};
 ghost use Rattle.folds.specs.Fold.{out};
 ghost use Rattle.sizes.specs.Sizes as Sizes;
 ghost use Rattle.vector.specs.Vector.{Below};
-ghost use Rattle.factor_update.specs.Factor.{Rising};
-ghost use Rattle.factor_update.specs.Room.{Block, Room};
+ghost use Rattle.variable_set.specs.Rising.{Rising};
+ghost use Rattle.leaving.specs.Room.{Room};
+ghost use Rattle.factor_update.specs.Block.{Block};
 ghost use Rattle.factoring.specs.Kept.{factor, keptOf};
 ghost use Rattle.factoring.specs.Kept as Kept;
 
@@ -27,7 +28,7 @@ fn contains_all(indices: &[usize], s: &[usize]) -> bool
     requires { ⌜ Below (length (now indices)) (now indices) Sizes.originals × Below (length (now s)) (now s) Sizes.originals ⌝ }
     ensures { λ r. ⌜ r ≡ Kept.containsAll (now (indices .entry)) (now (s .entry)) ⌝ }
 {
-    let listed = factor_update::marks(indices);
+    let listed = variable_set::marks(indices);
     for t in 0..s.len() {
         let i = s[t];
         if !listed[i] {
@@ -44,7 +45,7 @@ fn contains_singular(failed: bool, singular: [bool; sizes::ORIGINALS], indices: 
 {
     if failed {
         let mut list = [0; sizes::ORIGINALS];
-        let k = factor_update::rising(singular, sizes::ORIGINALS, &mut list);
+        let k = variable_set::rising(singular, sizes::ORIGINALS, &mut list);
         return contains_all(indices, &list[..k]);
     }
     false
@@ -55,8 +56,8 @@ pub fn definite(a: &mut [f64], k: usize) -> bool
     requires { ⌜ k * k ≤ length (now a) ⌝ }
     ensures { λ r. ⌜ out r (now (a .exit)) ≡ Kept.definite k (now (a .entry)) ⌝ }
 {
-    if triangular::cholesky(a, k) {
-        return triangular::positive_definite(&a[..], k);
+    if cholesky::cholesky(a, k) {
+        return cholesky::positive_definite(&a[..], k);
     }
     false
 }
@@ -96,7 +97,7 @@ fn last_updated(
 {
     if factored {
         let mut list = [0; sizes::ORIGINALS];
-        let k = factor_update::rising(held, sizes::ORIGINALS, &mut list);
+        let k = variable_set::rising(held, sizes::ORIGINALS, &mut list);
         return factor_update::updated(q, n, originals, &list[..k], indices, l, room);
     }
     false
@@ -127,7 +128,7 @@ impl Factoring {
         requires { ⌜ Rising Sizes.originals (now indices) ⌝ }
         ensures { λ r. ⌜ keptOf r ≡ Kept.withFactor (now (indices .entry)) (keptOf self) ⌝ }
     {
-        let held = factor_update::marks(indices);
+        let held = variable_set::marks(indices);
         let mut f = self;
         f.factored = true;
         f.held = held;
@@ -138,7 +139,7 @@ impl Factoring {
         requires { ⌜ Rising Sizes.originals (now indices) ⌝ }
         ensures { λ r. ⌜ keptOf r ≡ Kept.withSingular (now (indices .entry)) (keptOf self) ⌝ }
     {
-        let singular = factor_update::marks(indices);
+        let singular = variable_set::marks(indices);
         let mut f = self;
         f.factored = false;
         f.failed = true;

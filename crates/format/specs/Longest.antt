@@ -244,3 +244,8 @@ enough = 2346
 pub read-enough : (s : List ℕ) → read s ≡ read (take enough s)
 unfolding read left capLeft pick
 read-enough s = fields-same (length s) (length (take enough s)) s enough 0 empty (le-refl (length s)) (le-refl (length (take enough s))) (lit≤ tt)
+
+-- so the first n bytes of `kept`, which has room for as many or more, tell the reading of every file of which they are all that there is room for
+pub read-kept : (file kept : List ℕ) (n : ℕ) → enough ≤ length kept → take (length kept) file ≡ take n kept → read (take n kept) ≡ read file
+read-kept file kept n h e =
+    ap read (sym e) ∙ read-enough (take (length kept) file) ∙ ap read (take-take enough (length kept) file h) ∙ sym (read-enough file)

@@ -1,4 +1,9 @@
-// How the reader of the block file holds a block, and what it answers. The file's definition is specs/Read.antt.
+// How the reader of the block file holds a block, what it answers, and how much of a file tells the answer. The file's definition is specs/Read.antt.
+ghost use mathlib.Core.Path.{_≡_};
+ghost use mathlib.Core.List.{List};
+ghost use Prim.Native.Nat.{ℕ, _≤_};
+ghost use lib.ListN.{length, take};
+ghost use Rattle.format.specs.Read.{read};
 
 // The tags of the fields.
 pub const WORD: u64 = 1;
@@ -106,4 +111,16 @@ pub struct Counts {
 pub struct Reading {
     pub verdict: Verdict,
     pub block: Block,
+}
+
+// What is kept of a file: the longest block and a header after it, since no byte past them changes the reading.
+pub const KEPT: usize = 2346;
+
+// Where n bytes of a file are kept, all or the first, as many as there is room for: the bytes that are read as that file is.
+pub fn kept(bytes: &[u8; KEPT], n: usize) -> &[u8]
+    requires { ⌜ n ≤ length (now bytes) ⌝ }
+    ensures { λ r. ⌜ ((file : List ℕ) → take (length (now (bytes .entry))) file ≡ take n (now (bytes .entry)) → read (now r) ≡ read file) ⌝ }
+{
+    let all = &bytes[..];
+    &all[..n]
 }

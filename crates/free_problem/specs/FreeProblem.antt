@@ -5,27 +5,16 @@ use mathlib.Core.List.{List}
 use lib.Ieee.{Float}
 use lib.ListN.{length, take}
 use Rattle.sizes.specs.Sizes as Sizes
-use Rattle.vector.specs.Vector.{Below, sub, select}
-use Rattle.matrix.specs.Matrix.{mulVec, trMulVec, selectRows, selectColumns}
+use Rattle.vector.specs.Vector.{Below, select}
+use Rattle.matrix.specs.Matrix.{selectRows, selectColumns}
 use Rattle.slack_rows.specs.SlackRows.{keptColumns, stepNoise}
 use Rattle.iterate.specs.Problem.{Problem, problem, firstSlackColumn}
+use Rattle.right_side.specs.RightSide.{linear, gradient, residuals}
 use Rattle.free_problem.specs.declared.Free.{Free}
 
 -- `q.select_rows(solved).select_columns(solved)`, `e.select_rows(solved).select_columns(&kept)`; a is n by m
 unfoldable pub submatrix : (n m : ℕ) (a : List Float) (rows columns : List ℕ) → List Float
 submatrix n m a rows columns = let k = length rows in selectColumns k (selectRows n m a k rows) (length columns) columns
-
--- `c.select_rows(solved) - slope`
-unfoldable pub linear : (c : List Float) (solved : List ℕ) (slope : List Float) → List Float
-linear c solved slope = let k = length solved in sub k (select k c solved) slope
-
--- `&c_free - &q_rows * &x`, with k rows of n entries
-unfoldable pub gradient : (k n : ℕ) (qRows cFree x : List Float) → List Float
-gradient k n qRows cFree x = sub k cFree (mulVec k n qRows x)
-
--- `b - e.transpose() * &x`
-unfoldable pub residuals : (n m : ℕ) (e b x : List Float) → List Float
-residuals n m e b x = sub m b (trMulVec n m e x)
 
 -- ---- the whole
 pub record Gathered : Type 0 where

@@ -8,8 +8,9 @@ use Rattle.vector.specs.Vector.{select}
 use Rattle.matrix.specs.Matrix.{selectRows}
 use Rattle.slack_rows.specs.SlackRows.{keptColumns, stepNoise}
 use Rattle.iterate.specs.Problem.{problem, firstSlackColumn}
+use Rattle.right_side.specs.RightSide.{linear, gradient, residuals}
 use Rattle.free_problem.specs.declared.Free.{Free}
-use Rattle.free_problem.specs.FreeProblem.{submatrix, linear, gradient, residuals, Gathered, gatheredOf, gather}
+use Rattle.free_problem.specs.FreeProblem.{submatrix, Gathered, gatheredOf, gather}
 
 module _ (originals n m : ℕ) (q c e b x : List Float) (solved slacks : List ℕ) (slope : List Float) where
   abbrev columns : List ℕ

@@ -3,7 +3,6 @@
 ghost use mathlib.Core.Path.{_≡_};
 ghost use Prim.Native.Nat.{_≤_, _*_};
 ghost use lib.ListN.{length, take};
-ghost use Rattle.sizes.specs.Sizes as Sizes;
 ghost use Rattle.vector.specs.Vector.{Below};
 ghost use Rattle.matrix.specs.Matrix.{selectRows};
 ghost use Rattle.slack_rows.specs.SlackRows.{Rows, Solved};
@@ -47,50 +46,6 @@ fn submatrix(
     let entries = k * m;
     matrix::select_rows(a, n, m, rows, k, room);
     matrix::select_columns(&room[..entries], k, m, columns, columns.len(), y);
-}
-
-// c.select_rows(solved) - slope, over the start of y
-fn linear(c: &[f64], n: usize, solved: &[usize], slope: &[f64], y: &mut [f64])
-    requires { ⌜ (n ≤ length (now c))
-        × (length (now solved) ≤ Sizes.originals)
-        × Below (length (now solved)) (now solved) n
-        × (length (now solved) ≤ length (now slope))
-        × (length (now solved) ≤ length (now y)) ⌝ }
-    ensures { λ _. ⌜ take (length (now (solved .entry))) (now (y .exit))
-        ≡ Definition.linear (now (c .entry)) (now (solved .entry)) (now (slope .entry)) ⌝ }
-{
-    let k = solved.len();
-    let mut cs = [0.0; sizes::ORIGINALS];
-    vector::select(c, n, solved, k, &mut cs);
-    vector::sub(&cs[..k], slope, k, y);
-}
-
-// c - q_rows * x, with k rows of n entries, over the start of y
-fn gradient(q_rows: &[f64], c: &[f64], k: usize, n: usize, x: &[f64], y: &mut [f64])
-    requires { ⌜ (k ≤ Sizes.originals)
-        × (k * n ≤ length (now «q_rows»))
-        × (k ≤ length (now c))
-        × (n ≤ length (now x))
-        × (k ≤ length (now y)) ⌝ }
-    ensures { λ _. ⌜ take k (now (y .exit)) ≡ Definition.gradient k n (now («q_rows» .entry)) (now (c .entry)) (now (x .entry)) ⌝ }
-{
-    let mut qx = [0.0; sizes::ORIGINALS];
-    matrix::mul_vec(q_rows, k, n, x, &mut qx);
-    vector::sub(c, &qx[..k], k, y);
-}
-
-// b - e.transpose() * x, over the start of y
-fn residuals_at(e: &[f64], b: &[f64], n: usize, m: usize, x: &[f64], y: &mut [f64])
-    requires { ⌜ (m ≤ Sizes.columns)
-        × (n * m ≤ length (now e))
-        × (m ≤ length (now b))
-        × (n ≤ length (now x))
-        × (m ≤ length (now y)) ⌝ }
-    ensures { λ _. ⌜ take m (now (y .exit)) ≡ Definition.residuals n m (now (e .entry)) (now (b .entry)) (now (x .entry)) ⌝ }
-{
-    let mut ex = [0.0; sizes::COLUMNS];
-    matrix::tr_mul_vec(e, n, m, x, &mut ex);
-    vector::sub(b, &ex[..m], m, y);
 }
 
 // The free problem, its Q and E over the starts of q_free and e_free; Q's rows stand in room.
@@ -137,9 +92,9 @@ pub fn gather(
     let columns = slack_rows::kept_columns(e, n, m, solved, slacks, originals, first, &mut kept);
     submatrix(e, n, m, solved, &kept[..columns], room, e_free);
     submatrix(q, n, n, solved, solved, room, q_free);
-    linear(c, n, solved, slope, &mut c_free);
-    gradient(&room[..rows], &c_free[..k], k, n, x, &mut gradient_free);
-    residuals_at(e, b, n, m, x, &mut residuals);
+    right_side::linear(c, n, solved, slope, &mut c_free);
+    right_side::gradient(&room[..rows], &c_free[..k], k, n, x, &mut gradient_free);
+    right_side::residuals_at(e, b, n, m, x, &mut residuals);
     vector::select(&residuals[..m], m, &kept[..columns], columns, &mut residual);
     let noise = slack_rows::step_noise(&room[..rows], k, n, x, originals, &c_free[..k]);
     Free {

@@ -8,7 +8,7 @@ use lib.Ieee.{Float}
 use lib.Seq.{length-take-le}
 use Rattle.folds.specs.Fold.{pick}
 use Rattle.sizes.specs.Sizes as Sizes
-use Rattle.factor_update.specs.Factor.{Rising}
+use Rattle.variable_set.specs.Rising.{Rising}
 use Rattle.factoring.specs.declared.Factoring.{Factoring}
 use Rattle.factoring.specs.Kept.{Kept, Factor, factor, reset, update, optionOf, keptOf, Good}
 use Rattle.factoring.specs.Laws.{held-is, update-regular}

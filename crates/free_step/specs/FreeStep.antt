@@ -1,38 +1,24 @@
 -- qp.rs, what follows the solve of a pass of `solve_piecewise_in_units`: the step to the minimum on the free variables, or, where they have none,
 -- along a direction of zero curvature. The free variables are `solved` and, after them, `slacks`.
-use Prim.Native.Nat.{ℕ, _+_, _-_, _≤_}
-use mathlib.Core.Path.{_≡_}
+use Prim.Native.Nat.{ℕ}
 use mathlib.Core.Bool.{Bool}
 use mathlib.Core.List.{List}
 use lib.ListN.{length}
 use lib.Ieee.{Float, eq}
 use Rattle.folds.specs.Fold.{all, pick}
 use Rattle.folds.specs.Run.{Pass, done}
-use Rattle.sizes.specs.Sizes as Sizes
 use Rattle.arith.specs.Float.{f0, at}
-use Rattle.vector.specs.Vector.{filled}
 use Rattle.solution.specs.Solution.{Kkt, optimum, noOptimum, nonFinite, singular}
 use Rattle.segments.specs.declared.Segments.{Segments}
-use Rattle.segments.specs.declared.Spot.{Spot}
-use Rattle.free_list.specs.FreeList.{freeIndices}
-use Rattle.slack_rows.specs.SlackRows.{Rows, Solved, allMultipliers, withSlackSteps}
-use Rattle.ray.specs.Ray.{Descent, descent, noDescent, descentRay}
+use Rattle.slack_rows.specs.SlackRows.{allMultipliers, withSlackSteps}
+use Rattle.ray.specs.Ray.{descentRay}
 use Rattle.iterate.specs.Problem.{firstSlackColumn}
 use Rattle.iterate.specs.Iterate.{Result}
 use Rattle.iterate.specs.Iterate as Iterate
 use Rattle.iterate.specs.declared.Iterate.{Iterate}
 use Rattle.free_problem.specs.FreeProblem.{Gathered}
-use Rattle.full_step.specs.FullStep.{toward, along}
-
--- the free variables, split into those solved for and the slacks, each with its row among E's columns
-pub record Split (originals n m : ℕ) (e : List Float) (state : List Spot) (indices solved slacks : List ℕ) : Type 0 where
-  pub within : originals ≤ n
-  pub slacks-fit : n - originals ≤ m
-  pub columns : m ≤ Sizes.columns
-  pub free : indices ≡ freeIndices n state
-  pub counted : length solved + length slacks ≡ length indices
-  pub solved-are : Solved n m e solved
-  pub slacks-are : Rows n m originals (firstSlackColumn originals n m) slacks
+use Rattle.full_step.specs.FullStep.{toward}
+use Rattle.ray_step.specs.RayStep.{onRay}
 
 -- ---- the minimum
 -- `solution.map(|(delta, multipliers)| { ..; (slack_steps(delta, Some(&residuals)), all) })`, and the step to `&x_free + delta`
@@ -46,13 +32,6 @@ toMinimum originals n m q c e segments fixed qAmax linear solved slacks kept res
 -- `c_free.iter().all(|&v| v == 0.0)`
 unfoldable pub allZero : (n : ℕ) (a : List Float) → Bool
 allZero n a = all n (λ i. eq (at a i) f0)
-
--- `let direction = slack_steps(descent_ray(&q_free, &gradient_free, &e_free)?, None)`, and the step along it; None stands as residuals of 0
-unfoldable pub onRay : (originals n m : ℕ) (e : List Float) (segments : List Segments) (solved slacks : List ℕ) → Iterate → Descent →
-    Pass Iterate Result
-onRay originals n m e segments solved slacks i (descent direction) =
-    along n segments (withSlackSteps e n solved slacks direction (filled m f0) originals (firstSlackColumn originals n m)) i
-onRay originals n m e segments solved slacks i noDescent = done Iterate.singular
 
 -- `if c_free.iter().all(..) { return Err(CutupError::SingularCovariance); }`
 unfoldable pub descend : (originals n m : ℕ) (e : List Float) (segments : List Segments) (solved slacks : List ℕ) → Gathered → Iterate →

@@ -1,2 +1,1 @@
 pub mod FreeStep
-pub mod Laws

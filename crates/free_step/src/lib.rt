@@ -1,70 +1,24 @@
 // qp.rs, what follows the solve of a pass of `solve_piecewise_in_units`: the step to the minimum on the free variables, or, where they have none,
 // along a direction of zero curvature. The free variables `indices` are `solved`, those below `originals`, and, after them, `slacks`.
 ghost use mathlib.Core.Path.{_≡_};
-ghost use Prim.Native.Nat.{_≤_, _+_, _-_, _*_};
+ghost use Prim.Native.Nat.{_≤_, _*_};
 ghost use lib.ListN.{length, take};
-ghost use Rattle.folds.specs.Fold.{over};
 ghost use Rattle.solution.specs.Solution.{answer};
 ghost use Rattle.segments.specs.Segments.{AllCut};
 ghost use Rattle.free_list.specs.FreeList.{Ends};
-ghost use Rattle.slack_rows.specs.SlackRows.{Rows, Solved, withSlackSteps};
-ghost use Rattle.ray.specs.Ray.{rayOf};
-ghost use Rattle.iterate.specs.Problem.{firstSlackColumn};
 ghost use Rattle.iterate.specs.Iterate.{passedOf, Consistent};
 ghost use Rattle.free_problem.specs.FreeProblem.{gatheredOf, Lists};
-ghost use Rattle.advance.specs.Advance.{Shape};
+ghost use Rattle.release_at.specs.ReleaseAt.{Shape};
+ghost use Rattle.full_step.specs.FullStep.{Split};
 ghost use Rattle.free_step.specs.FreeStep as FreeStep;
-ghost use Rattle.free_step.specs.FreeStep.{Split};
 use free_problem::Free;
 use iterate::Counts;
 use iterate::Ending;
 use iterate::Iterate;
 use iterate::Magnitudes;
 use iterate::Passed;
-use ray::Ray;
 use segments::Segments;
 use solution::KktVerdict;
-
-// The step on the variables `solved`, with the slacks' after it, over the start of `all`.
-fn slack_steps(
-    e: &[f64],
-    counts: Counts,
-    solved: &[usize],
-    slacks: &[usize],
-    step: &[f64],
-    residuals: &[f64],
-    all: &mut [f64],
-)
-    requires { ⌜ (counts .originals ≤ counts .n)
-        × (counts .n - counts .originals ≤ counts .m)
-        × Solved (counts .n) (counts .m) (now e) (now solved)
-        × Rows (counts .n) (counts .m) (counts .originals) (firstSlackColumn (counts .originals) (counts .n) (counts .m)) (now slacks)
-        × (length (now solved) ≤ length (now step))
-        × (counts .m ≤ length (now residuals))
-        × (length (now solved) + length (now slacks) ≤ length (now all)) ⌝ }
-    ensures { λ _. ⌜ now (all .exit)
-        ≡ over
-        (withSlackSteps (now (e .entry)) (counts .n) (now (solved .entry)) (now (slacks .entry)) (now (step .entry)) (now (residuals .entry))
-        (counts .originals) (firstSlackColumn (counts .originals) (counts .n) (counts .m)))
-        (now (all .entry)) ⌝ }
-{
-    let originals = counts.originals;
-    let n = counts.n;
-    let m = counts.m;
-    let first = m - (n - originals);
-    slack_rows::with_slack_steps(
-        e,
-        n,
-        m,
-        solved,
-        slacks,
-        step,
-        residuals,
-        originals,
-        first,
-        all,
-    );
-}
 
 // To the minimum on the free variables, which the solve gave as a step from x.
 fn to_minimum(
@@ -108,7 +62,7 @@ fn to_minimum(
     let residuals = free.residuals;
     let all = slack_rows::all_multipliers(multipliers, &kept[..columns]);
     let mut step = [0.0; sizes::VARIABLES];
-    slack_steps(e, counts, solved, slacks, delta, &residuals[..m], &mut step);
+    full_step::slack_steps(e, counts, solved, slacks, delta, &residuals[..m], &mut step);
     full_step::toward(
         iterate,
         segments,
@@ -137,50 +91,6 @@ fn all_zero(a: &[f64], n: usize) -> bool
         }
     }
     true
-}
-
-// Along the ray of the variables `solved`, with residuals of 0 for the slacks' rows.
-fn on_ray(
-    iterate: Iterate,
-    segments: [Segments; sizes::VARIABLES],
-    e: &[f64],
-    counts: Counts,
-    indices: &[usize],
-    solved: &[usize],
-    slacks: &[usize],
-    ray: Ray,
-    lower: &[f64],
-    upper: &[f64],
-) -> Passed
-    requires { ⌜ AllCut (counts .n) segments
-        × Consistent (counts .n) segments iterate
-        × Split (counts .originals) (counts .n) (counts .m) (now e) (iterate .board .state) (now indices) (now solved) (now slacks)
-        × Ends (counts .n) segments (iterate .board .state) (now lower) (now upper) ⌝ }
-    ensures { λ r. ⌜ passedOf (counts .n) (counts .m) r
-        ≡ FreeStep.onRay (counts .originals) (counts .n) (counts .m) (now (e .entry)) segments (now (solved .entry)) (now (slacks .entry)) iterate
-        (rayOf (length (now (solved .entry))) ray) ⌝ }
-    ensures { λ r. ⌜ Consistent (counts .n) segments (r .iterate) ⌝ }
-{
-    if ray.found {
-        let k = solved.len();
-        let n = counts.n;
-        let m = counts.m;
-        let count = indices.len();
-        let direction = ray.direction;
-        let none = [0.0; sizes::COLUMNS];
-        let mut step = [0.0; sizes::VARIABLES];
-        slack_steps(
-            e,
-            counts,
-            solved,
-            slacks,
-            &direction[..k],
-            &none[..m],
-            &mut step,
-        );
-        return full_step::along(iterate, segments, n, indices, &step[..count], lower, upper);
-    }
-    iterate::ended(Ending::SingularCovariance, iterate)
 }
 
 // No minimum on the free variables: along a direction that lowers the objective for ever. Q and E are those of the variables `solved`.
@@ -226,7 +136,7 @@ fn descend(
         k,
         columns,
     );
-    on_ray(
+    ray_step::on_ray(
         iterate,
         segments,
         e,

@@ -1,20 +1,37 @@
 -- qp.rs, the step of a pass of `solve_piecewise_in_units`: toward the minimum on the free variables, or along a direction of zero curvature, until
 -- a variable reaches an end of its segment.
-use Prim.Native.Nat.{ℕ}
+use Prim.Native.Nat.{ℕ, _+_, _-_, _≤_}
+use mathlib.Core.Path.{_≡_}
 use mathlib.Core.Bool.{Bool}
 use mathlib.Core.List.{List}
 use lib.ListN.{length, take}
 use lib.Ieee.{Float}
 use Rattle.folds.specs.Run.{Pass, done}
+use Rattle.sizes.specs.Sizes as Sizes
 use Rattle.vector.specs.Vector.{add, sub, select}
 use Rattle.segments.specs.declared.Segments.{Segments}
+use Rattle.segments.specs.declared.Spot.{Spot}
 use Rattle.free_list.specs.FreeList.{freeIndices, lowerEnds, upperEnds}
-use Rattle.blocking.specs.Blocking.{ratioTest, stepTolerance, firstPassed}
-use Rattle.blocking.specs.declared.Hit.{Hit}
-use Rattle.blocking.specs.declared.Hit.the-variants.{Found, Nothing}
+use Rattle.step_length.specs.StepLength.{ratioTest, stepTolerance, firstPassed}
+use Rattle.step_length.specs.declared.Hit.{Hit}
+use Rattle.step_length.specs.declared.Hit.the-variants.{Found, Nothing}
+use Rattle.slack_rows.specs.SlackRows.{Rows, Solved}
+use Rattle.iterate.specs.Problem.{firstSlackColumn}
 use Rattle.iterate.specs.Iterate.{Result, unbounded}
 use Rattle.iterate.specs.declared.Iterate.{Iterate}
-use Rattle.advance.specs.Advance.{moveAndBlock, blockedPass, settled, release, decided}
+use Rattle.blocked_step.specs.BlockedStep.{moveAndBlock, blockedPass}
+use Rattle.release_at.specs.ReleaseAt.{release}
+use Rattle.advance.specs.Advance.{settled, decided}
+
+-- the free variables, split into those solved for and the slacks, each with its row among E's columns
+pub record Split (originals n m : ℕ) (e : List Float) (state : List Spot) (indices solved slacks : List ℕ) : Type 0 where
+  pub within : originals ≤ n
+  pub slacks-fit : n - originals ≤ m
+  pub columns : m ≤ Sizes.columns
+  pub free : indices ≡ freeIndices n state
+  pub counted : length solved + length slacks ≡ length indices
+  pub solved-are : Solved n m e solved
+  pub slacks-are : Rows n m originals (firstSlackColumn originals n m) slacks
 
 -- ---- toward the target
 -- `if let Some((step, k, side)) = blocking { .. continue; }`, with the step along `target - x_free`; else the whole step, and the release

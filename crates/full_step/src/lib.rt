@@ -1,22 +1,67 @@
 // qp.rs, the step of a pass of `solve_piecewise_in_units`: toward the minimum on the free variables, or along a direction of zero curvature, until
 // a variable reaches an end of its segment. `indices` are the free variables.
-use blocking::Hit;
 use iterate::Counts;
 use iterate::Ending;
 use iterate::Iterate;
 use iterate::Magnitudes;
 use iterate::Passed;
 use segments::Segments;
+use step_length::Hit;
 ghost use mathlib.Core.Path.{_≡_};
-ghost use Prim.Native.Nat.{_≤_};
+ghost use Prim.Native.Nat.{_≤_, _+_, _-_};
 ghost use lib.ListN.{length, take};
+ghost use Rattle.folds.specs.Fold.{over};
 ghost use Rattle.sizes.specs.Sizes as Sizes;
 ghost use Rattle.segments.specs.Segments.{AllCut, AllPlaced};
 ghost use Rattle.free_list.specs.FreeList.{Ends, Listed, freeIndices};
-ghost use Rattle.blocking.specs.Blocking.{Entries};
-ghost use Rattle.iterate.specs.Iterate.{passedOf, Consistent};
-ghost use Rattle.advance.specs.Advance.{Shape, Gives, Leaves, Keeps};
+ghost use Rattle.step_length.specs.StepLength.{Entries};
+ghost use Rattle.slack_rows.specs.SlackRows.{Rows, Solved, withSlackSteps};
+ghost use Rattle.iterate.specs.Problem.{firstSlackColumn};
+ghost use Rattle.iterate.specs.Iterate.{passedOf, Gives, Leaves, Consistent};
+ghost use Rattle.blocked_step.specs.BlockedStep.{Keeps};
+ghost use Rattle.release_at.specs.ReleaseAt.{Shape};
 ghost use Rattle.full_step.specs.FullStep as FullStep;
+
+// The step on the variables `solved`, with the slacks' after it, over the start of `all`.
+pub fn slack_steps(
+    e: &[f64],
+    counts: Counts,
+    solved: &[usize],
+    slacks: &[usize],
+    step: &[f64],
+    residuals: &[f64],
+    all: &mut [f64],
+)
+    requires { ⌜ (counts .originals ≤ counts .n)
+        × (counts .n - counts .originals ≤ counts .m)
+        × Solved (counts .n) (counts .m) (now e) (now solved)
+        × Rows (counts .n) (counts .m) (counts .originals) (firstSlackColumn (counts .originals) (counts .n) (counts .m)) (now slacks)
+        × (length (now solved) ≤ length (now step))
+        × (counts .m ≤ length (now residuals))
+        × (length (now solved) + length (now slacks) ≤ length (now all)) ⌝ }
+    ensures { λ _. ⌜ now (all .exit)
+        ≡ over
+        (withSlackSteps (now (e .entry)) (counts .n) (now (solved .entry)) (now (slacks .entry)) (now (step .entry)) (now (residuals .entry))
+        (counts .originals) (firstSlackColumn (counts .originals) (counts .n) (counts .m)))
+        (now (all .entry)) ⌝ }
+{
+    let originals = counts.originals;
+    let n = counts.n;
+    let m = counts.m;
+    let first = m - (n - originals);
+    slack_rows::with_slack_steps(
+        e,
+        n,
+        m,
+        solved,
+        slacks,
+        step,
+        residuals,
+        originals,
+        first,
+        all,
+    );
+}
 
 // Toward the target: to where the first free variable passes an end of its segment, or the whole step.
 fn stepped(
@@ -49,7 +94,7 @@ fn stepped(
     ensures { λ r. ⌜ Consistent (counts .n) segments (r .iterate) ⌝ }
 {
     let count = indices.len();
-    let hit = blocking::first_passed(x_free, target, lower, upper, count, tolerance);
+    let hit = step_length::first_passed(x_free, target, lower, upper, count, tolerance);
     let Hit::Found(step, k, side) = hit else {
         let board = iterate.board;
         let next = advance::settled(board, indices, target, lower, upper, tolerance);
@@ -68,7 +113,7 @@ fn stepped(
     };
     let mut direction = [0.0; sizes::VARIABLES];
     vector::sub(target, x_free, count, &mut direction);
-    advance::blocked_pass(
+    blocked_step::blocked_pass(
         iterate,
         segments,
         indices,
@@ -99,11 +144,11 @@ fn ray_step(
         (now (upper .entry)) iterate) ⌝ }
     ensures { λ r. ⌜ Keeps (now (indices .entry)) segments iterate r ⌝ }
 {
-    let hit = blocking::ratio_test(x_free, direction, lower, upper, indices.len());
+    let hit = step_length::ratio_test(x_free, direction, lower, upper, indices.len());
     let Hit::Found(step, k, side) = hit else {
         return iterate::ended(Ending::Unbounded, iterate);
     };
-    advance::blocked_pass(
+    blocked_step::blocked_pass(
         iterate,
         segments,
         indices,
@@ -155,7 +200,12 @@ pub fn toward(
     vector::select(&x[..n], n, indices, count, &mut x_free);
     let mut target = [0.0; sizes::VARIABLES];
     vector::add(&x_free[..count], step, count, &mut target);
-    let tolerance = blocking::step_tolerance(&target[..count], solved, &x[..n], counts.originals);
+    let tolerance = step_length::step_tolerance(
+        &target[..count],
+        solved,
+        &x[..n],
+        counts.originals,
+    );
     stepped(
         iterate,
         segments,

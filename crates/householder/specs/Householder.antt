@@ -7,7 +7,8 @@ use lib.Ieee.{Float, eq, lt}
 use Rattle.folds.specs.Fold.{fold, span, all, pick, over, then, Out, out}
 use Rattle.folds.specs.Part.{part, onPart, onPartOut, Two, two}
 use Rattle.arith.specs.Float.{fsub, fmul, fdiv, fneg, f0, f2, at}
-use Rattle.vector.specs.Vector.{dot, norm, subScaled}
+use Rattle.reductions.specs.Reductions.{dot, norm}
+use Rattle.vector.specs.Vector.{subScaled}
 
 -- "2·(v·y)/(v·v)", left to right
 unfoldable pub factor : (v y : List Float) → Float

@@ -7,7 +7,8 @@ use Rattle.folds.specs.Fold.{fold, span, pick, all, tab, over}
 use Rattle.folds.specs.Part.{part, withPart, onPart, withOut, onPartOut, two}
 use Rattle.root.specs.Root.{root}
 use Rattle.arith.specs.Float.{f0, f1, fneg, fromℕ}
-use Rattle.vector.specs.Vector.{dot, sumSquares, norm, subScaled}
+use Rattle.reductions.specs.Reductions.{dot, sumSquares, norm}
+use Rattle.vector.specs.Vector.{subScaled}
 use Rattle.householder.specs.Householder.{factor, reflect, reflectColumns, zeroColumn, opposite, reflector, fromDiagonal, reflectRest, qrColumn}
 use Rattle.householder.specs.Householder.{mark, qrStep, qr, qTrStep, qTrMul}
 

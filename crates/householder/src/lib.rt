@@ -4,7 +4,7 @@ ghost use Prim.Native.Nat.{_≤_, _<_, _*_, _+_, _-_};
 ghost use lib.ListN.{length};
 ghost use Rattle.folds.specs.Fold.{out};
 ghost use Rattle.folds.specs.Part.{two};
-ghost use Rattle.vector.specs.Vector.{dot as dotOf};
+ghost use Rattle.reductions.specs.Reductions.{dot as dotOf};
 ghost use Rattle.householder.specs.Householder as Householder;
 
 // The rows of y that v has, reflected; w is v times v.
@@ -13,7 +13,7 @@ fn reflect(v: &[f64], w: f64, y: &mut [f64])
     ensures { λ _. ⌜ now (y .exit) ≡ Householder.reflect (now (v .entry)) (now (y .entry)) ⌝ }
 {
     let h = v.len();
-    let c = 2.0 * vector::dot(v, &y[..], h) / w;
+    let c = 2.0 * reductions::dot(v, &y[..], h) / w;
     vector::sub_scaled(y, h, v, c);
 }
 
@@ -22,7 +22,7 @@ fn reflect_columns(v: &[f64], a: &mut [f64], n: usize, m: usize, k: usize, lo: u
     requires { ⌜ (n * m ≤ length (now a)) × (k + length (now v) ≡ n) × (lo ≤ m) ⌝ }
     ensures { λ _. ⌜ now (a .exit) ≡ Householder.reflectColumns n k lo m (now (v .entry)) (now (a .entry)) ⌝ }
 {
-    let w = vector::dot(v, v, v.len());
+    let w = reductions::dot(v, v, v.len());
     for j in lo..m {
         let b = k + j * n;
         let e = n + j * n;
@@ -56,7 +56,7 @@ fn reflector(x: &mut [f64], h: usize) -> bool
     if zero_column(&x[..], h) {
         return false;
     }
-    let r = vector::norm(&x[..], h);
+    let r = reductions::norm(&x[..], h);
     x[0] = x[0] - opposite(x[0], r);
     true
 }

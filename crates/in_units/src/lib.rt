@@ -1,4 +1,4 @@
-// qp.rs, `solve_piecewise_in_units`: where the passes start, and the work memory that they are lent. Q is n by n, E is n by m; the variables from
+// qp.rs, `solve_piecewise_in_units`: the passes from the start, and the work memory that they are lent. Q is n by n, E is n by m; the variables from
 // `originals` on are slacks, each with one of the last columns of E.
 ghost use mathlib.Core.Path.{_≡_};
 ghost use Prim.Native.Nat.{_≤_, _+_, _*_};
@@ -8,14 +8,10 @@ ghost use Rattle.arith.specs.Float.{f0};
 ghost use Rattle.vector.specs.Vector.{filled};
 ghost use Rattle.segments.specs.Segments.{AllCut};
 ghost use Rattle.iterate.specs.Problem.{problem, Shaped, Room};
-ghost use Rattle.active.specs.Minimized.{minimizedOf};
+ghost use Rattle.minimum.specs.Minimized.{minimizedOf};
 ghost use Rattle.in_units.specs.InUnits as Definition;
-use active::Minimum;
-use blocking::Board;
-use blocking::Released;
 use iterate::Counts;
-use iterate::Iterate;
-use iterate::Magnitudes;
+use minimum::Minimum;
 use segments::Segments;
 
 // The entries of a matrix of work memory, which has a row for each original and a column for each variable with the slacks (ROWS), and of one with a
@@ -28,26 +24,6 @@ const GRAM: usize = sizes::COLUMNS * sizes::COLUMNS;
 const SMALL_ROWS: usize = sizes::FEW * (sizes::FEW + sizes::FEW);
 
 const SMALL_GRAM: usize = (sizes::FEW + sizes::FEW) * (sizes::FEW + sizes::FEW);
-
-fn started(segments: [Segments; sizes::VARIABLES], n: usize, start: &[f64]) -> Iterate
-    requires { ⌜ (n ≤ Sizes.variables) × (n ≤ length (now start)) × AllCut n segments ⌝ }
-    ensures { λ r. ⌜ r ≡ Definition.started n segments (now (start .entry)) ⌝ }
-{
-    let x = segments::all_held(segments, n, start);
-    let state = segments::all_placed(segments, n, &x[..n]);
-    let board = Board {
-        x: x,
-        state: state,
-        refused: [false; sizes::VARIABLES],
-    };
-    let released = Released::NoOne;
-    Iterate {
-        board: board,
-        released: released,
-        freed: false,
-        freed_at: [0.0; sizes::VARIABLES],
-    }
-}
 
 fn solve_piecewise_in_units(
     q: &[f64],
@@ -74,12 +50,9 @@ fn solve_piecewise_in_units(
         segments (now (start .entry)) ⌝ }
 {
     let n = counts.n;
-    let fixed = segments::all_fixed(segments, n);
-    let magnitudes = Magnitudes {
-        q: vector::amax(q, n * n),
-        linear: arith::max(vector::amax(c, n), segments::slope_amax(segments, n)),
-    };
-    let iterate = started(segments, n, start);
+    let fixed = starting::all_fixed(segments, n);
+    let magnitudes = starting::magnitudes(q, c, segments, n);
+    let iterate = starting::started(segments, n, start);
     active::passes(
         iterate,
         segments,

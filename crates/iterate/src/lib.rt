@@ -3,6 +3,7 @@ ghost use mathlib.Core.Path.{_≡_};
 ghost use lib.ListN.{replicate};
 ghost use Rattle.sizes.specs.Sizes as Sizes;
 ghost use Rattle.arith.specs.Float.{f0};
+ghost use Rattle.iterate.specs.Iterate as Definition;
 use blocking::Board;
 use blocking::Released;
 
@@ -25,6 +26,19 @@ pub struct Iterate {
     pub released: Released,
     pub freed: bool,
     pub freed_at: [f64; sizes::VARIABLES],
+}
+
+// Another point with its active set.
+pub fn with_board(iterate: Iterate, board: Board, released: Released) -> Iterate
+    ensures { λ r. ⌜ r ≡ Definition.withBoard iterate board released ⌝ }
+{
+    let freed_at = iterate.freed_at;
+    Iterate {
+        board: board,
+        released: released,
+        freed: iterate.freed,
+        freed_at: freed_at,
+    }
 }
 
 pub enum Ending {

@@ -1,13 +1,12 @@
 // qp.rs, `solve_kkt`, the public call. K is n by n, E is n by m, with up to 32 variables and 8 columns.
 ghost use mathlib.Core.Path.{_≡_};
 ghost use Prim.Native.Nat.{_≤_, _*_};
-ghost use lib.ListN.{length, take};
+ghost use lib.ListN.{length};
 ghost use Rattle.sizes.specs.Sizes as Sizes;
 ghost use Rattle.scaled.specs.System.{Sized, system};
-ghost use Rattle.solution.specs.Solution.{answer, solutionOf};
-ghost use Rattle.kkt.specs.Kkt.{engine, Answered, Written};
+ghost use Rattle.solution.specs.Solution.{solutionOf};
+ghost use Rattle.kkt.specs.Kkt.{Answered};
 ghost use Rattle.kkt.specs.Kkt as Definition;
-use solution::KktVerdict;
 use solution::Solution;
 
 // The solve in `Units`, and back; uk and ue are work memory.
@@ -129,32 +128,6 @@ fn shaped(
     multipliers == m
 }
 
-// The number of a verdict; where it is Solved, x and the multipliers are written.
-fn write(
-    verdict: KktVerdict,
-    optimum: [f64; sizes::VARIABLES],
-    lambda: [f64; sizes::COLUMNS],
-    n: usize,
-    m: usize,
-    x: &mut [f64],
-    multipliers: &mut [f64],
-) -> u32
-    requires { ⌜ (n ≤ Sizes.originals) × (m ≤ Sizes.columns) × (length (now x) ≡ n) × (length (now multipliers) ≡ m) ⌝ }
-    ensures { λ r. ⌜ Written (engine (answer verdict (take n optimum) (take m lambda))) r
-        (now (x .entry)) (now (x .exit)) (now (multipliers .entry)) (now (multipliers .exit)) ⌝ }
-{
-    match verdict {
-        KktVerdict::Solved => {
-            vector::copy(&optimum[..n], n, x);
-            vector::copy(&lambda[..m], m, multipliers);
-            0
-        }
-        KktVerdict::NoOptimum => 100,
-        KktVerdict::NonFiniteCovariance => 11,
-        KktVerdict::SingularCovariance => 12,
-    }
-}
-
 // Minimizes ½xᵀKx − cᵀx subject to Eᵀx = b.
 pub fn solve_kkt(
     k: &[f64],
@@ -183,7 +156,7 @@ pub fn solve_kkt(
         let verdict = s.verdict;
         let optimum = s.x;
         let lambda = s.multipliers;
-        return write(verdict, optimum, lambda, n, m, x, multipliers);
+        return outputs::write_solution(verdict, optimum, lambda, n, m, x, multipliers);
     }
     9
 }

@@ -18,8 +18,8 @@ use denote.Struct.Laws as LL
 use Rattle.walks.specs.Walks.{owned-all}
 use Rattle.blocking.proofs.Board as B
 use Rattle.blocking.proofs.Board.Laws as B′
-use Rattle.blocking.proofs.Side as S
-use Rattle.blocking.proofs.Side.Laws as S′
+use Rattle.step_length.proofs.Side as S
+use Rattle.step_length.proofs.Side.Laws as S′
 use Rattle.blocking.proofs.Released as D
 use Rattle.blocking.proofs.Released.Laws as D′
 

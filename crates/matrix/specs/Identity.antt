@@ -9,8 +9,10 @@ use Rattle.arith.specs.Float.{fmul, f0}
 use Rattle.arith.specs.Neutral.{Held, plus, mul-one, one-mul, mul-zero, zero-mul, add-zero, sum-one}
 use Rattle.vector.specs.Vector.{addScalar}
 use Rattle.vector.specs.Laws.{Holding, length-addScalar, addScalar-at}
-use Rattle.matrix.specs.Matrix.{cell, identity, columnsDot, trMul, cellDot, mul}
-use Rattle.matrix.specs.Laws.{identity-at, unit-same, unit-other, tabM-all}
+use Rattle.columns.specs.Columns.{cell}
+use Rattle.matrix.specs.Matrix.{identity, columnsDot, trMul, cellDot, mul}
+use Rattle.columns.specs.Laws.{tabM-all}
+use Rattle.matrix.specs.Laws.{identity-at, unit-same, unit-other}
 
 module _ (n : ℕ) (a : List Float) (h : Holding (n * n) a) where
   place : (i j : ℕ) → i < n → j < n → i + j * n < n * n

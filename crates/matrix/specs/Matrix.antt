@@ -1,22 +1,12 @@
 -- Matrices: a list of columns one after the other, and the number of rows. Quotients, sums, differences, norms and amax are the vector's, of n * m.
-use Prim.Native.Nat.{ℕ, _+_, _*_}
+use Prim.Native.Nat.{ℕ}
 use mathlib.Core.List.{List}
 use lib.Dec.{eqb}
-use lib.ListN.{set, getD}
+use lib.ListN.{getD}
 use lib.Ieee.{Float}
-use Rattle.folds.specs.Fold.{fold, tab, tabM, pick}
+use Rattle.folds.specs.Fold.{tab, tabM, pick}
 use Rattle.arith.specs.Float.{fmul, fdiv, f0, f1, at, sum}
-use Rattle.vector.specs.Vector.{amax}
-
--- row i, column j of a matrix of n rows
-abbrev pub cell : (a : List Float) (n i j : ℕ) → Float
-cell a n i j = at a (i + j * n)
-
-abbrev pub put : (a : List Float) (n i j : ℕ) (v : Float) → List Float
-put a n i j v = set a (i + j * n) v
-
-unfoldable pub column : (n : ℕ) (a : List Float) (j : ℕ) → List Float
-column n a j = tab n (λ i. cell a n i j)
+use Rattle.columns.specs.Columns.{cell}
 
 unfoldable pub trace : (n : ℕ) (a : List Float) → Float
 trace n a = sum n (λ i. cell a n i i)
@@ -75,11 +65,3 @@ rowsDivided n m a by = tabM n m (λ i j. fdiv (cell a n i j) (at by i))
 
 unfoldable pub columnsDivided : (n m : ℕ) (a by : List Float) → List Float
 columnsDivided n m a by = tabM n m (λ i j. fdiv (cell a n i j) (at by j))
-
--- the largest absolute value of each column
-unfoldable pub columnsAmax : (n m : ℕ) (a : List Float) → List Float
-columnsAmax n m a = tab m (λ j. amax n (column n a j))
-
--- a loop down column j of a matrix of n rows: its first k entries become g 0, .., g (k - 1)
-unfoldable pub putColumn : (k n j : ℕ) (g : ℕ → Float) (a : List Float) → List Float
-putColumn k n j g a = fold k (λ i l. put l n i j (g i)) a

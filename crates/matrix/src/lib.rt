@@ -5,32 +5,8 @@ ghost use lib.ListN.{length};
 ghost use Rattle.folds.specs.Fold.{over};
 ghost use Rattle.arith.specs.Float.{fdiv, at};
 ghost use Rattle.vector.specs.Vector.{Below};
+ghost use Rattle.columns.specs.Columns as Columns;
 ghost use Rattle.matrix.specs.Matrix as Matrix;
-
-// The entry at row i, column j.
-pub fn get(a: &[f64], n: usize, m: usize, i: usize, j: usize) -> f64
-    requires { ⌜ (n * m ≤ length (now a)) × (i < n) × (j < m) ⌝ }
-    ensures { λ r. ⌜ r ≡ Matrix.cell (now (a .entry)) n i j ⌝ }
-{
-    a[i + j * n]
-}
-
-pub fn put(a: &mut [f64], n: usize, m: usize, i: usize, j: usize, v: f64)
-    requires { ⌜ (n * m ≤ length (now a)) × (i < n) × (j < m) ⌝ }
-    ensures { λ _. ⌜ now (a .exit) ≡ Matrix.put (now (a .entry)) n i j v ⌝ }
-{
-    a[i + j * n] = v;
-}
-
-// Column j, as a slice of n elements.
-pub fn column(a: &[f64], n: usize, m: usize, j: usize) -> &[f64]
-    requires { ⌜ (n * m ≤ length (now a)) × (j < m) ⌝ }
-    ensures { λ r. ⌜ now r ≡ Matrix.column n (now (a .entry)) j ⌝ }
-{
-    let b = j * n;
-    let e = b + n;
-    &a[b..e]
-}
 
 pub fn trace(a: &[f64], n: usize) -> f64
     requires { ⌜ n * n ≤ length (now a) ⌝ }
@@ -38,7 +14,7 @@ pub fn trace(a: &[f64], n: usize) -> f64
 {
     let mut s = 0.0;
     for i in 0..n {
-        s = s + get(a, n, n, i, i);
+        s = s + columns::get(a, n, n, i, i);
     }
     s
 }
@@ -50,7 +26,7 @@ fn row_dot(a: &[f64], n: usize, m: usize, i: usize, x: &[f64]) -> f64
 {
     let mut s = 0.0;
     for j in 0..m {
-        s = s + get(a, n, m, i, j) * x[j];
+        s = s + columns::get(a, n, m, i, j) * x[j];
     }
     s
 }
@@ -72,7 +48,7 @@ fn column_dot(a: &[f64], n: usize, m: usize, j: usize, x: &[f64]) -> f64
 {
     let mut s = 0.0;
     for i in 0..n {
-        s = s + get(a, n, m, i, j) * x[i];
+        s = s + columns::get(a, n, m, i, j) * x[i];
     }
     s
 }
@@ -94,18 +70,18 @@ fn cell_dot(a: &[f64], n: usize, p: usize, b: &[f64], m: usize, i: usize, j: usi
 {
     let mut s = 0.0;
     for k in 0..p {
-        s = s + get(a, n, p, i, k) * get(b, p, m, k, j);
+        s = s + columns::get(a, n, p, i, k) * columns::get(b, p, m, k, j);
     }
     s
 }
 
 fn mul_column(a: &[f64], n: usize, p: usize, b: &[f64], m: usize, j: usize, c: &mut [f64])
     requires { ⌜ (n * p ≤ length (now a)) × (p * m ≤ length (now b)) × (n * m ≤ length (now c)) × (j < m) ⌝ }
-    ensures { λ _. ⌜ now (c .exit) ≡ Matrix.putColumn n n j (λ i. Matrix.cellDot n p (now (a .entry)) (now (b .entry)) i j) (now (c .entry)) ⌝ }
+    ensures { λ _. ⌜ now (c .exit) ≡ Columns.putColumn n n j (λ i. Matrix.cellDot n p (now (a .entry)) (now (b .entry)) i j) (now (c .entry)) ⌝ }
 {
     for i in 0..n {
         let v = cell_dot(a, n, p, b, m, i, j);
-        put(c, n, m, i, j, v);
+        columns::put(c, n, m, i, j, v);
     }
 }
 
@@ -126,18 +102,18 @@ fn columns_dot(a: &[f64], n: usize, p: usize, b: &[f64], m: usize, i: usize, j: 
 {
     let mut s = 0.0;
     for k in 0..n {
-        s = s + get(a, n, p, k, i) * get(b, n, m, k, j);
+        s = s + columns::get(a, n, p, k, i) * columns::get(b, n, m, k, j);
     }
     s
 }
 
 fn tr_mul_column(a: &[f64], n: usize, p: usize, b: &[f64], m: usize, j: usize, c: &mut [f64])
     requires { ⌜ (n * p ≤ length (now a)) × (n * m ≤ length (now b)) × (p * m ≤ length (now c)) × (j < m) ⌝ }
-    ensures { λ _. ⌜ now (c .exit) ≡ Matrix.putColumn p p j (λ i. Matrix.columnsDot n (now (a .entry)) (now (b .entry)) i j) (now (c .entry)) ⌝ }
+    ensures { λ _. ⌜ now (c .exit) ≡ Columns.putColumn p p j (λ i. Matrix.columnsDot n (now (a .entry)) (now (b .entry)) i j) (now (c .entry)) ⌝ }
 {
     for i in 0..p {
         let v = columns_dot(a, n, p, b, m, i, j);
-        put(c, p, m, i, j, v);
+        columns::put(c, p, m, i, j, v);
     }
 }
 
@@ -153,11 +129,11 @@ pub fn tr_mul(a: &[f64], n: usize, p: usize, b: &[f64], m: usize, c: &mut [f64])
 
 fn transpose_column(a: &[f64], n: usize, m: usize, j: usize, b: &mut [f64])
     requires { ⌜ (n * m ≤ length (now a)) × (m * n ≤ length (now b)) × (j < n) ⌝ }
-    ensures { λ _. ⌜ now (b .exit) ≡ Matrix.putColumn m m j (λ i. Matrix.cell (now (a .entry)) n j i) (now (b .entry)) ⌝ }
+    ensures { λ _. ⌜ now (b .exit) ≡ Columns.putColumn m m j (λ i. Columns.cell (now (a .entry)) n j i) (now (b .entry)) ⌝ }
 {
     for i in 0..m {
-        let v = get(a, n, m, j, i);
-        put(b, m, n, i, j, v);
+        let v = columns::get(a, n, m, j, i);
+        columns::put(b, m, n, i, j, v);
     }
 }
 
@@ -183,11 +159,11 @@ fn unit(i: usize, j: usize) -> f64
 
 fn identity_column(a: &mut [f64], n: usize, j: usize)
     requires { ⌜ (n * n ≤ length (now a)) × (j < n) ⌝ }
-    ensures { λ _. ⌜ now (a .exit) ≡ Matrix.putColumn n n j (λ i. Matrix.unit i j) (now (a .entry)) ⌝ }
+    ensures { λ _. ⌜ now (a .exit) ≡ Columns.putColumn n n j (λ i. Matrix.unit i j) (now (a .entry)) ⌝ }
 {
     for i in 0..n {
         let v = unit(i, j);
-        put(a, n, n, i, j, v);
+        columns::put(a, n, n, i, j, v);
     }
 }
 
@@ -211,11 +187,11 @@ fn select_rows_column(
 )
     requires { ⌜ (n * m ≤ length (now a)) × (k ≤ length (now list)) × Below k (now list) n × (k * m ≤ length (now b)) × (j < m) ⌝ }
     ensures { λ _. ⌜ now (b .exit) ≡
-        Matrix.putColumn k k j (λ i. Matrix.cell (now (a .entry)) n (Matrix.index (now (list .entry)) i) j) (now (b .entry)) ⌝ }
+        Columns.putColumn k k j (λ i. Columns.cell (now (a .entry)) n (Matrix.index (now (list .entry)) i) j) (now (b .entry)) ⌝ }
 {
     for i in 0..k {
-        let v = get(a, n, m, list[i], j);
-        put(b, k, m, i, j, v);
+        let v = columns::get(a, n, m, list[i], j);
+        columns::put(b, k, m, i, j, v);
     }
 }
 
@@ -232,11 +208,11 @@ pub fn select_rows(a: &[f64], n: usize, m: usize, list: &[usize], k: usize, b: &
 // Column j of b = column t of a.
 fn copy_column(a: &[f64], n: usize, m: usize, t: usize, k: usize, j: usize, b: &mut [f64])
     requires { ⌜ (n * m ≤ length (now a)) × (t < m) × (n * k ≤ length (now b)) × (j < k) ⌝ }
-    ensures { λ _. ⌜ now (b .exit) ≡ Matrix.putColumn n n j (λ i. Matrix.cell (now (a .entry)) n i t) (now (b .entry)) ⌝ }
+    ensures { λ _. ⌜ now (b .exit) ≡ Columns.putColumn n n j (λ i. Columns.cell (now (a .entry)) n i t) (now (b .entry)) ⌝ }
 {
     for i in 0..n {
-        let v = get(a, n, m, i, t);
-        put(b, n, k, i, j, v);
+        let v = columns::get(a, n, m, i, t);
+        columns::put(b, n, k, i, j, v);
     }
 }
 
@@ -253,11 +229,11 @@ pub fn select_columns(a: &[f64], n: usize, m: usize, list: &[usize], k: usize, b
 fn divide_rows_column(a: &mut [f64], n: usize, m: usize, by: &[f64], j: usize)
     requires { ⌜ (n * m ≤ length (now a)) × (n ≤ length (now by)) × (j < m) ⌝ }
     ensures { λ _. ⌜ now (a .exit) ≡
-        Matrix.putColumn n n j (λ i. fdiv (Matrix.cell (now (a .entry)) n i j) (at (now (by .entry)) i)) (now (a .entry)) ⌝ }
+        Columns.putColumn n n j (λ i. fdiv (Columns.cell (now (a .entry)) n i j) (at (now (by .entry)) i)) (now (a .entry)) ⌝ }
 {
     for i in 0..n {
-        let v = get(&a[..], n, m, i, j);
-        put(a, n, m, i, j, v / by[i]);
+        let v = columns::get(&a[..], n, m, i, j);
+        columns::put(a, n, m, i, j, v / by[i]);
     }
 }
 
@@ -273,11 +249,11 @@ pub fn divide_rows(a: &mut [f64], n: usize, m: usize, by: &[f64])
 
 fn divide_column(a: &mut [f64], n: usize, m: usize, by: f64, j: usize)
     requires { ⌜ (n * m ≤ length (now a)) × (j < m) ⌝ }
-    ensures { λ _. ⌜ now (a .exit) ≡ Matrix.putColumn n n j (λ i. fdiv (Matrix.cell (now (a .entry)) n i j) by) (now (a .entry)) ⌝ }
+    ensures { λ _. ⌜ now (a .exit) ≡ Columns.putColumn n n j (λ i. fdiv (Columns.cell (now (a .entry)) n i j) by) (now (a .entry)) ⌝ }
 {
     for i in 0..n {
-        let v = get(&a[..], n, m, i, j);
-        put(a, n, m, i, j, v / by);
+        let v = columns::get(&a[..], n, m, i, j);
+        columns::put(a, n, m, i, j, v / by);
     }
 }
 
@@ -288,15 +264,5 @@ pub fn divide_columns(a: &mut [f64], n: usize, m: usize, by: &[f64])
 {
     for j in 0..m {
         divide_column(a, n, m, by[j], j);
-    }
-}
-
-// y = the largest absolute value of each column of a (n by m).
-pub fn columns_amax(a: &[f64], n: usize, m: usize, y: &mut [f64])
-    requires { ⌜ (n * m ≤ length (now a)) × (m ≤ length (now y)) ⌝ }
-    ensures { λ _. ⌜ now (y .exit) ≡ over (Matrix.columnsAmax n m (now (a .entry))) (now (y .entry)) ⌝ }
-{
-    for j in 0..m {
-        y[j] = vector::amax(column(a, n, m, j), n);
     }
 }

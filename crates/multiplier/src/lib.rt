@@ -1,48 +1,19 @@
 // qp.rs, `search_multiplier`: the doubling, until `high` is within the limit, and the cuts of the bracket. Neither loop counts: each ends because
 // fewer floats are left. Q is n by n, E is n by m, the rows' a is n by r; at are the kinks' points, slopes their slopes.
 ghost use mathlib.Core.Path.{_≡_};
-ghost use Prim.Native.Nat.{ℕ, _≤_, _+_};
-ghost use lib.ListN.{length, take};
-ghost use Rattle.sizes.specs.Sizes as Sizes;
-ghost use Rattle.active.specs.Minimized.{minimized, minimizedOf};
+ghost use Prim.Native.Nat.{_+_};
+ghost use lib.ListN.{take};
+ghost use Rattle.minimum.specs.Minimized.{minimizedOf};
 ghost use Rattle.bracket.specs.Bracket.{bracketOf};
 ghost use Rattle.bracket.specs.Ends.{Rising};
 ghost use Rattle.multiplier.specs.Ready.{Ready};
-ghost use Rattle.multiplier.specs.Search.{problem, Gives, steppedOf, endedOf};
+ghost use Rattle.search_step.specs.Step.{steppedOf, endedOf};
+ghost use Rattle.multiplier.specs.Search.{problem};
 ghost use Rattle.multiplier.specs.Search as Definition;
-use active::Minimum;
-use active::SolveVerdict;
 use bracket::Bracket;
-
-const MAX: f64 = 1.7976931348623157e308;
-
-// What a step of the search gives: the next bracket where there are more, and else the verdict, with the bracket that it is found in where it is
-// Optimal.
-pub struct Stepped {
-    pub more: bool,
-    pub verdict: SolveVerdict,
-    pub bracket: Bracket,
-}
-
-fn more(bracket: Bracket) -> Stepped
-    ensures { λ r. ⌜ Gives r bracket Definition.goes ⌝ }
-{
-    Stepped {
-        more: true,
-        verdict: SolveVerdict::Optimal,
-        bracket: bracket,
-    }
-}
-
-fn ended(verdict: SolveVerdict, bracket: Bracket) -> Stepped
-    ensures { λ r. ⌜ Gives r bracket (Definition.ends verdict) ⌝ }
-{
-    Stepped {
-        more: false,
-        verdict: verdict,
-        bracket: bracket,
-    }
-}
+use minimum::Minimum;
+use minimum::SolveVerdict;
+use search_step::Stepped;
 
 // The optimum with every slope raised by `extra`, from a warm start.
 pub fn solve_raised(
@@ -92,48 +63,6 @@ pub fn solve_raised(
 }
 
 // ---- the doubling
-// `high` is past the limit: on to twice it.
-fn double_on(bracket: Bracket) -> Stepped
-    ensures { λ r. ⌜ Gives r bracket Definition.doubleOn ⌝ }
-{
-    if bracket.high > MAX / 2.0 {
-        return ended(SolveVerdict::NotConverged, bracket);
-    }
-    more(bracket.double())
-}
-
-// What the solve at `high` answered. An objective with no minimum runs off past any limit; any other error is the arithmetic breaking down.
-fn double_by(
-    bracket: Bracket,
-    verdict: SolveVerdict,
-    x: [f64; sizes::VARIABLES],
-    multipliers: [f64; sizes::COLUMNS],
-    passes: usize,
-    at: &[f64],
-    limit: f64,
-    n: usize,
-) -> Stepped
-    requires { ⌜ (n ≤ Sizes.originals) × (n ≤ length (now at)) ⌝ }
-    ensures { λ r. ⌜ ((w : ℕ) → steppedOf n w r
-        ≡ Definition.doubleBy n (now (at .entry)) limit (bracketOf n w bracket) (minimized verdict (take n x) (take w multipliers) passes)) ⌝ }
-{
-    match verdict {
-        SolveVerdict::Optimal => {
-            let value = turnover::turnover(&x[..n], at, n);
-            if turnover::within(value, limit, &x[..n], n) {
-                let best = bracket.accept(bracket.high, value, x, multipliers, passes);
-                return ended(SolveVerdict::Optimal, best);
-            }
-            let past = bracket.exceed(bracket.high, value);
-            double_on(past.warmed(x))
-        }
-        SolveVerdict::Unbounded => double_on(bracket.exceed(bracket.high, arith::infinity())),
-        SolveVerdict::NonFiniteCovariance => ended(SolveVerdict::NotConverged, bracket),
-        SolveVerdict::SingularCovariance => ended(SolveVerdict::NotConverged, bracket),
-        SolveVerdict::NotConverged => ended(SolveVerdict::NotConverged, bracket),
-    }
-}
-
 fn double_step(
     bracket: Bracket,
     q: &[f64],
@@ -181,7 +110,7 @@ fn double_step(
     let verdict = s.verdict;
     let x = s.x;
     let multipliers = s.multipliers;
-    double_by(bracket, verdict, x, multipliers, s.passes, at, limit, n)
+    search_step::double_by(bracket, verdict, x, multipliers, s.passes, at, limit, n)
 }
 
 // Doubles until `high` is within the limit.
@@ -240,36 +169,6 @@ fn reach(
 }
 
 // ---- the cuts
-// What the solve at the middle answered.
-fn cut_by(
-    bracket: Bracket,
-    verdict: SolveVerdict,
-    x: [f64; sizes::VARIABLES],
-    multipliers: [f64; sizes::COLUMNS],
-    passes: usize,
-    at: &[f64],
-    limit: f64,
-    n: usize,
-) -> Stepped
-    requires { ⌜ (n ≤ Sizes.originals) × (n ≤ length (now at)) ⌝ }
-    ensures { λ r. ⌜ ((w : ℕ) → steppedOf n w r
-        ≡ Definition.cutBy n (now (at .entry)) limit (bracketOf n w bracket) (minimized verdict (take n x) (take w multipliers) passes)) ⌝ }
-{
-    match verdict {
-        SolveVerdict::Optimal => {
-            let value = turnover::turnover(&x[..n], at, n);
-            if turnover::within(value, limit, &x[..n], n) {
-                return more(bracket.accept(bracket.middle, value, x, multipliers, passes));
-            }
-            more(bracket.exceed(bracket.middle, value))
-        }
-        SolveVerdict::Unbounded => more(bracket.exceed(bracket.middle, arith::infinity())),
-        SolveVerdict::NonFiniteCovariance => ended(SolveVerdict::NonFiniteCovariance, bracket),
-        SolveVerdict::SingularCovariance => ended(SolveVerdict::SingularCovariance, bracket),
-        SolveVerdict::NotConverged => ended(SolveVerdict::NotConverged, bracket),
-    }
-}
-
 fn cut_at(
     bracket: Bracket,
     q: &[f64],
@@ -317,7 +216,7 @@ fn cut_at(
     let verdict = s.verdict;
     let x = s.x;
     let multipliers = s.multipliers;
-    cut_by(bracket, verdict, x, multipliers, s.passes, at, limit, n)
+    search_step::cut_by(bracket, verdict, x, multipliers, s.passes, at, limit, n)
 }
 
 fn cut_step(
@@ -347,11 +246,11 @@ fn cut_step(
 {
     let best = bracket.best;
     if turnover::reaches(bracket.high_value, limit, &best[..n], n) {
-        return ended(SolveVerdict::Optimal, bracket);
+        return search_step::ended(SolveVerdict::Optimal, bracket);
     }
     let next = bracket.cut(limit);
     if next.closed() {
-        return ended(SolveVerdict::Optimal, bracket);
+        return search_step::ended(SolveVerdict::Optimal, bracket);
     }
     cut_at(
         next,

@@ -1,21 +1,20 @@
 -- Laws of the definitions: the free variables, split at `originals`, are as the solve and the step ask, and what a function's calls give, put
 -- together.
 use mathlib.Core.Path.{_≡_, _∙_}
-use mathlib.Core.Bool.{Bool}
+use mathlib.Core.Bool.{Bool, true, false}
 use mathlib.Core.List.{List}
 use Prim.Native.Nat.{ℕ, _+_, _-_, _*_, _≤_}
 use native.Mathlib.Nat.{le-refl}
 use native.Mathlib.Omega.{arith}
 use lib.ListN.{length, take, drop, length-drop}
 use lib.Seq.{length-take-le, take-all}
-use borrow.Author.Tests.{ne-eqb}
 use lib.Ieee.{Float}
 use Rattle.folds.specs.Fold.{pick}
 use Rattle.folds.specs.Run.{Pass}
 use Rattle.folds.specs.Position.{partitionPoint, split-within}
 use Rattle.sizes.specs.Sizes as Sizes
-use Rattle.factor_update.specs.Factor.{Rising}
-use Rattle.factor_update.specs.Laws.{rising-chosen}
+use Rattle.variable_set.specs.Rising.{Rising}
+use Rattle.variable_set.specs.Laws.{rising-chosen}
 use Rattle.factoring.specs.Kept.{Kept, keptOf}
 use Rattle.segments.specs.declared.Segments.{Segments}
 use Rattle.segments.specs.declared.Spot.{Spot}
@@ -25,13 +24,15 @@ use Rattle.slack_rows.specs.Laws as SlackRows
 use Rattle.iterate.specs.Problem.{problem, firstSlackColumn}
 use Rattle.iterate.specs.Iterate.{Result}
 use Rattle.iterate.specs.declared.Iterate.{Iterate}
-use Rattle.advance.specs.Advance.{withoutFree}
+use Rattle.freeing.specs.Freeing.{noneFree, withoutFree}
+use Rattle.freeing.specs.Laws.{none-free}
 use Rattle.solution.specs.Solution.{answer}
 use Rattle.free_problem.specs.FreeProblem.{Gathered, gather}
 use Rattle.free_solve.specs.declared.Solved.{Solved}
 use Rattle.free_solve.specs.FreeSolve.{solutionOf, solveFree}
 use Rattle.free_solve.specs.Laws.{left-answer, left-factoring, left-factor}
-use Rattle.free_step.specs.FreeStep.{Split, step}
+use Rattle.full_step.specs.FullStep.{Split}
+use Rattle.free_step.specs.FreeStep.{step}
 use Rattle.pass.specs.State.{State, state, beside}
 use Rattle.pass.specs.Pass.{freePass, pass}
 
@@ -98,13 +99,13 @@ module _ (originals n m : ℕ) (q c e : List Float) (segments : List Segments) (
 
     module _ {indices : List ℕ} (free : indices ≡ freeIndices n (i .board .state))
         (lead : solved ≡ take (partitionPoint originals indices) indices) where
-      pub pass-without : {x : Pass Iterate Result} → length solved ≡ 0 → x ≡ withoutFree originals n m segments fixed i →
+      pub pass-without : {x : Pass Iterate Result} → noneFree solved ≡ true → x ≡ withoutFree originals n m segments fixed i →
           beside f l x ≡ pass (problem originals n m q c e b) segments fixed qAmax linear (state i f l)
       unfolding pass pick
-      pass-without t h = rw (h, ← free, ← lead-length originals indices lead, t)
+      pass-without t h = rw (h, ← free, ← lead-length originals indices lead, ← none-free solved, t)
 
-      pub pass-with : {x : Pass State Result} → (length solved ≡ 0 → ⊥) → slacks ≡ drop (length solved) indices →
+      pub pass-with : {x : Pass State Result} → noneFree solved ≡ false → slacks ≡ drop (length solved) indices →
           x ≡ freePass (problem originals n m q c e b) segments fixed qAmax linear solved slacks i f l →
           x ≡ pass (problem originals n m q c e b) segments fixed qAmax linear (state i f l)
       unfolding pass pick
-      pass-with t s h = h ∙ rw (← free, ← lead, ← lead-length originals indices lead, ne-eqb _ _ t, s)
+      pass-with t s h = h ∙ rw (← free, ← lead, ← lead-length originals indices lead, ← none-free solved, t, s)

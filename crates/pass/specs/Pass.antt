@@ -17,7 +17,7 @@ use Rattle.iterate.specs.declared.Iterate.{Iterate}
 use Rattle.free_problem.specs.FreeProblem.{gather}
 use Rattle.free_solve.specs.FreeSolve.{solveFree}
 use Rattle.free_step.specs.FreeStep.{step}
-use Rattle.advance.specs.Advance.{withoutFree}
+use Rattle.freeing.specs.Freeing.{withoutFree}
 use Rattle.pass.specs.State.{State, state, beside}
 
 -- from `let slope = ..` on: the problem in the free variables, `let solution = match factored { .. }`, and the step that it gives

@@ -4,13 +4,12 @@
 ghost use mathlib.Core.Path.{_≡_};
 ghost use Prim.Native.Nat.{_≤_, _*_};
 ghost use lib.ListN.{length};
-ghost use Rattle.sizes.specs.Sizes as Sizes;
-ghost use Rattle.factor_update.specs.Factor.{Rising};
+ghost use Rattle.variable_set.specs.Rising.{Rising};
 ghost use Rattle.factoring.specs.Kept.{keptOf, Good};
 ghost use Rattle.segments.specs.Segments.{AllCut};
 ghost use Rattle.iterate.specs.Problem.{problem, Shaped, Room};
 ghost use Rattle.iterate.specs.Iterate.{Consistent};
-ghost use Rattle.free_step.specs.FreeStep.{Split};
+ghost use Rattle.full_step.specs.FullStep.{Split};
 ghost use Rattle.pass.specs.State.{madeOf, state};
 ghost use Rattle.pass.specs.Pass as Definition;
 use factoring::Factoring;
@@ -169,8 +168,8 @@ pub fn pass(
     let indices = &indices[..count];
     let solved = free_list::split_slacks(indices, counts.originals);
     let k = solved.len();
-    if k == 0 {
-        let passed = advance::without_free(iterate, segments, fixed, counts.n, counts.originals);
+    if freeing::none_free(solved) {
+        let passed = freeing::without_free(iterate, segments, fixed, counts.n, counts.originals);
         return Made {
             passed: passed,
             factoring: factoring,

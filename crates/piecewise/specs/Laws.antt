@@ -1,4 +1,4 @@
--- Laws of the definitions: the answers of a call, and what a refusal gives back.
+-- Laws of the definitions: the answers of a call.
 use mathlib.Core.Path.{_≡_, refl, sym}
 use mathlib.Core.List.{List}
 use mathlib.Core.Bool.{true, false}
@@ -6,12 +6,12 @@ use Prim.Native.Nat.{ℕ, _<_}
 use lib.Ieee.{Float}
 use Rattle.folds.specs.Fold.{pick-true, pick-false}
 use Rattle.sizes.specs.Sizes as Sizes
-use Rattle.active.specs.Minimized as Engine
-use Rattle.active.specs.Minimized.{nonFinite, singular, unbounded, notConverged}
+use Rattle.minimum.specs.Minimized as Engine
 use Rattle.quadratic.specs.Quadratic.{Quadratic, quadratic, shaped, blank}
 use Rattle.quadratic.specs.Laws.{many-refused}
 use Rattle.slack_solve.specs.SlackSolve.{solve}
-use Rattle.piecewise.specs.Piecewise.{PiecewiseAnswer, wrongShape, blankBound, engine, solvePiecewise, number, xOr, multipliersOr, passesOr, Written}
+use Rattle.outputs.specs.Piecewise.{wrongShape, blankBound, engine}
+use Rattle.piecewise.specs.Piecewise.{solvePiecewise}
 
 -- ---- the answers of a call
 module _ (n m r : ℕ) (q c e b lower upper a rowLower rowUpper at slopes start : List Float) (x multipliers : ℕ) where
@@ -33,32 +33,3 @@ module _ (n m r : ℕ) (q c e b lower upper a rowLower rowUpper at slopes start 
       solvePiecewise p x multipliers ≡ engine s
   unfolding solvePiecewise
   engine-answers t f s = sym (pick-true _ _ t (pick-false _ _ f (rw s)))
-
--- ---- what a refusal gives back: its number, and what was there
-module _ (x multipliers : List Float) (passes : ℕ) where
-  abbrev Refused : PiecewiseAnswer → ℕ → Type 0
-  Refused answer r = Written answer r x x multipliers multipliers passes passes
-
-  pub refused-wrongShape : Refused wrongShape 9
-  unfolding number xOr multipliersOr passesOr
-  refused-wrongShape = record { numbered = refl; x-written = refl; multipliers-written = refl; passes-written = refl }
-
-  pub refused-blankBound : Refused blankBound 10
-  unfolding number xOr multipliersOr passesOr
-  refused-blankBound = record { numbered = refl; x-written = refl; multipliers-written = refl; passes-written = refl }
-
-  pub refused-nonFinite : Refused (engine nonFinite) 11
-  unfolding number xOr multipliersOr passesOr
-  refused-nonFinite = record { numbered = refl; x-written = refl; multipliers-written = refl; passes-written = refl }
-
-  pub refused-singular : Refused (engine singular) 12
-  unfolding number xOr multipliersOr passesOr
-  refused-singular = record { numbered = refl; x-written = refl; multipliers-written = refl; passes-written = refl }
-
-  pub refused-unbounded : Refused (engine unbounded) 13
-  unfolding number xOr multipliersOr passesOr
-  refused-unbounded = record { numbered = refl; x-written = refl; multipliers-written = refl; passes-written = refl }
-
-  pub refused-notConverged : Refused (engine notConverged) 14
-  unfolding number xOr multipliersOr passesOr
-  refused-notConverged = record { numbered = refl; x-written = refl; multipliers-written = refl; passes-written = refl }

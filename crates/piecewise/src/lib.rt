@@ -1,42 +1,6 @@
 // qp.rs, `solve_piecewise` and `solve_bounded`, the public calls.
-ghost use mathlib.Core.Path.{_≡_};
-ghost use Prim.Native.Nat.{_≤_, _+_};
-ghost use lib.ListN.{length, take};
-ghost use Rattle.sizes.specs.Sizes as Sizes;
-ghost use Rattle.active.specs.Minimized.{minimized};
 ghost use Rattle.quadratic.specs.Quadratic.{quadratic};
-ghost use Rattle.piecewise.specs.Piecewise.{bounded, engine, Answered, Written};
-use active::SolveVerdict;
-
-// The number of a verdict; where it is Optimal, x, the multipliers and the passes are written.
-fn write(
-    verdict: SolveVerdict,
-    optimum: [f64; sizes::VARIABLES],
-    lambda: [f64; sizes::COLUMNS],
-    made: usize,
-    n: usize,
-    w: usize,
-    x: &mut [f64],
-    multipliers: &mut [f64],
-    passes: &mut u64,
-) -> u32
-    requires { ⌜ (n ≤ Sizes.originals) × (w ≤ Sizes.columns) × (length (now x) ≡ n) × (length (now multipliers) ≡ w) ⌝ }
-    ensures { λ r. ⌜ Written (engine (minimized verdict (take n optimum) (take w lambda) made)) r
-        (now (x .entry)) (now (x .exit)) (now (multipliers .entry)) (now (multipliers .exit)) (now (passes .entry)) (now (passes .exit)) ⌝ }
-{
-    match verdict {
-        SolveVerdict::Optimal => {
-            vector::copy(&optimum[..n], n, x);
-            vector::copy(&lambda[..w], w, multipliers);
-            *passes = made as u64;
-            0
-        }
-        SolveVerdict::NonFiniteCovariance => 11,
-        SolveVerdict::SingularCovariance => 12,
-        SolveVerdict::Unbounded => 13,
-        SolveVerdict::NotConverged => 14,
-    }
-}
+ghost use Rattle.piecewise.specs.Piecewise.{bounded, Answered};
 
 // Minimizes ½xᵀQx − cᵀx + Σᵢ κᵢ|xᵢ − aᵢ| subject to Eᵀx = b, to the bounds and to the rows' limits, from start; at are the kinks' a, slopes their κ.
 pub fn solve_piecewise(
@@ -106,7 +70,7 @@ pub fn solve_piecewise(
         let verdict = s.verdict;
         let optimum = s.x;
         let lambda = s.multipliers;
-        return write(
+        return outputs::write_minimum(
             verdict,
             optimum,
             lambda,

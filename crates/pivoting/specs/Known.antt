@@ -9,10 +9,11 @@ use Rattle.folds.specs.Best.{better, bestOf, lastLargest}
 use Rattle.arith.specs.Float.{f0, fromℕ}
 use Rattle.arith.specs.Known.{squares}
 use Rattle.arith.specs.Scalar.{max as fmax, totalLess, negative}
-use Rattle.vector.specs.Vector.{dot, sumSquares, norm, divided, copy, filled}
-use Rattle.matrix.specs.Matrix.{putColumn, column}
-use Rattle.pivoting.specs.Pivoting.{columnNorm, largestNorm, tolerance, offered, asLargest, largestColumn, subColumn}
-use Rattle.pivoting.specs.Pivoting.{removePart, removeOne, removeAll, pivoting, withBasis, taken, choose, pivotStep, pivoted, factored}
+use Rattle.reductions.specs.Reductions.{dot, sumSquares, norm}
+use Rattle.vector.specs.Vector.{divided, copy, filled}
+use Rattle.columns.specs.Columns.{putColumn, column}
+use Rattle.pivot_choice.specs.PivotChoice.{columnNorm, largestNorm, tolerance, offered, asLargest, largestColumn}
+use Rattle.pivoting.specs.Pivoting.{subColumn, removePart, removeOne, removeAll, pivoting, withBasis, taken, choose, pivotStep, pivoted, factored}
 
 abbrev doubled : List Float
 doubled = fromℕ 3 ∷ fromℕ 4 ∷ fromℕ 6 ∷ fromℕ 8 ∷ []

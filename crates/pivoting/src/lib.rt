@@ -1,24 +1,18 @@
 // qp.rs: the first half of `Constraints::new`, of E with n rows and m columns, up to 32 and 24; p is min(n, m). Of the basis Y, n by p, the
 // first `rank` columns count, and of T, p by m, the first `rank` rows.
+use pivot_choice::Largest;
 ghost use mathlib.Core.Path.{_≡_};
-ghost use Prim.Native.Nat.{_≤_, _<_, _+_, _*_, min, max};
+ghost use Prim.Native.Nat.{_≤_, _<_, _+_, _*_};
 ghost use mathlib.Core.Bool.{true, false};
 ghost use mathlib.Core.List.{[], _∷_, _++_};
 ghost use lib.ListN.{length, set, take, replicate};
 ghost use Rattle.folds.specs.Fold.{out, pick};
-ghost use Rattle.folds.specs.Best.{found, better};
 ghost use Rattle.folds.specs.Part.{two};
 ghost use Rattle.sizes.specs.Sizes as Sizes;
 ghost use Rattle.arith.specs.Float.{at};
-ghost use Rattle.matrix.specs.Matrix.{putColumn};
+ghost use Rattle.columns.specs.Columns.{putColumn};
 ghost use Rattle.pivoting.specs.Pivoting as Pivoting;
-ghost use Rattle.pivoting.specs.Pivoting.{asBest, atLeast, stateOf, Taken};
-
-// The remaining column of the largest norm, as `max_by` has it.
-pub enum Largest {
-    Found(usize, f64),
-    Nothing,
-}
+ghost use Rattle.pivoting.specs.Pivoting.{stateOf, Taken};
 
 // The column of E each of the `rank` basis vectors was built from, in order, and which columns remain.
 pub struct Pivots {
@@ -27,92 +21,14 @@ pub struct Pivots {
     pub rank: usize,
 }
 
-fn larger_of(n: usize, m: usize) -> usize
-    ensures { λ r. ⌜ r ≡ max n m ⌝ }
-{
-    if n < m { m } else { n }
-}
-
-pub fn smaller_of(n: usize, m: usize) -> usize
-    ensures { λ r. ⌜ r ≡ min n m ⌝ }
-{
-    if n < m { n } else { m }
-}
-
-fn column_norm(a: &[f64], n: usize, m: usize, j: usize) -> f64
-    requires { ⌜ (n * m ≤ length (now a)) × (j < m) ⌝ }
-    ensures { λ r. ⌜ r ≡ Pivoting.columnNorm n (now (a .entry)) j ⌝ }
-{
-    vector::norm(matrix::column(a, n, m, j), n)
-}
-
-fn largest_norm(e: &[f64], n: usize, m: usize) -> f64
-    requires { ⌜ n * m ≤ length (now e) ⌝ }
-    ensures { λ r. ⌜ r ≡ Pivoting.largestNorm n m (now (e .entry)) ⌝ }
-{
-    let mut s = 0.0;
-    for j in 0..m {
-        s = arith::max(s, column_norm(e, n, m, j));
-    }
-    s
-}
-
-// What is left of a column at or below it is rounding.
-fn tolerance(e: &[f64], n: usize, m: usize) -> f64
-    requires { ⌜ n * m ≤ length (now e) ⌝ }
-    ensures { λ r. ⌜ r ≡ Pivoting.tolerance n m (now (e .entry)) ⌝ }
-{
-    arith::from_usize(larger_of(n, m)) * arith::EPSILON * largest_norm(e, n, m)
-}
-
-fn better(j: usize, norm: f64, best: Largest) -> Largest
-    ensures { λ r. ⌜ asBest r ≡ better atLeast (asBest best) (found (j, norm)) ⌝ }
-{
-    let Largest::Found(_, value) = best else {
-        return Largest::Found(j, norm);
-    };
-    if arith::total_less(norm, value) {
-        return best;
-    }
-    Largest::Found(j, norm)
-}
-
-fn better_one(
-    left: &[f64],
-    n: usize,
-    m: usize,
-    remaining: &[bool],
-    j: usize,
-    best: Largest,
-) -> Largest
-    requires { ⌜ (n * m ≤ length (now left)) × (m ≤ length (now remaining)) × (j < m) ⌝ }
-    ensures { λ r. ⌜ asBest r ≡ better atLeast (asBest best) (Pivoting.offered n (now (left .entry)) (now (remaining .entry)) j) ⌝ }
-{
-    if remaining[j] {
-        return better(j, column_norm(left, n, m, j), best);
-    }
-    best
-}
-
-fn largest_column(left: &[f64], n: usize, m: usize, remaining: &[bool]) -> Largest
-    requires { ⌜ (n * m ≤ length (now left)) × (m ≤ length (now remaining)) ⌝ }
-    ensures { λ r. ⌜ r ≡ Pivoting.largestColumn n m (now (left .entry)) (now (remaining .entry)) ⌝ }
-{
-    let mut best = Largest::Nothing;
-    for j in 0..m {
-        best = better_one(left, n, m, remaining, j, best);
-    }
-    best
-}
-
 // Column l of a (n by m) less y times t.
 fn sub_column(a: &mut [f64], n: usize, m: usize, l: usize, y: &[f64], t: f64)
     requires { ⌜ (n * m ≤ length (now a)) × (l < m) × (n ≤ length (now y)) ⌝ }
     ensures { λ _. ⌜ now (a .exit) ≡ Pivoting.subColumn n l (now (y .entry)) t (now (a .entry)) ⌝ }
 {
     for i in 0..n {
-        let v = matrix::get(&a[..], n, m, i, l) - y[i] * t;
-        matrix::put(a, n, m, i, l, v);
+        let v = columns::get(&a[..], n, m, i, l) - y[i] * t;
+        columns::put(a, n, m, i, l, v);
     }
 }
 
@@ -130,9 +46,9 @@ fn remove_part(
     ensures { λ _. ⌜ two (now (left .exit)) (now (coefficients .exit))
         ≡ Pivoting.removePart n p row (now (y .entry)) l (two (now (left .entry)) (now (coefficients .entry))) ⌝ }
 {
-    let t = vector::dot(y, matrix::column(&left[..], n, m, l), n);
-    let c = matrix::get(&coefficients[..], p, m, row, l) + t;
-    matrix::put(coefficients, p, m, row, l, c);
+    let t = reductions::dot(y, columns::column(&left[..], n, m, l), n);
+    let c = columns::get(&coefficients[..], p, m, row, l) + t;
+    columns::put(coefficients, p, m, row, l, c);
     sub_column(left, n, m, l, y, t);
 }
 
@@ -191,7 +107,7 @@ fn put_column(a: &mut [f64], n: usize, m: usize, j: usize, y: &[f64])
     ensures { λ _. ⌜ now (a .exit) ≡ putColumn n n j (at (now (y .entry))) (now (a .entry)) ⌝ }
 {
     for i in 0..n {
-        matrix::put(a, n, m, i, j, y[i]);
+        columns::put(a, n, m, i, j, y[i]);
     }
 }
 
@@ -261,10 +177,10 @@ fn taken(
         ≡ Pivoting.taken n m p row j norm (stateOf m (now (left .entry)) (now (coefficients .entry)) (now (basis .entry)) pivots) ⌝ }
     ensures { λ r. ⌜ r .rank ≡ row + 1 ⌝ }
 {
-    let y = dense::divided(matrix::column(&left[..], n, m, j), n, norm);
+    let y = dense::divided(columns::column(&left[..], n, m, j), n, norm);
     let next = with_pivot(row, m, j, pivots);
     let remaining = next.remaining;
-    matrix::put(coefficients, p, m, row, j, norm);
+    columns::put(coefficients, p, m, row, j, norm);
     with_basis(
         left,
         coefficients,
@@ -309,7 +225,7 @@ fn pivot_step(
     ensures { λ r. ⌜ r .pivots .rank ≡ pick (r .more) (row + 1) row ⌝ }
 {
     let remaining = pivots.remaining;
-    let best = largest_column(&left[..], n, m, &remaining[..m]);
+    let best = pivot_choice::largest_column(&left[..], n, m, &remaining[..m]);
     let Largest::Found(j, norm) = best else {
         return Turn {
             more: false,
@@ -403,7 +319,7 @@ pub fn factored(
         n,
         m,
         p,
-        tolerance(e, n, m),
+        pivot_choice::tolerance(e, n, m),
         no_pivots(),
     )
 }

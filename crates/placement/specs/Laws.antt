@@ -13,8 +13,8 @@ use Rattle.folds.specs.Fold.{pick-true, pick-false, both, both-true, both-yes, 
 use Rattle.ints.specs.Diff.{diff, split}
 use Rattle.arith.specs.Float.{at}
 use Rattle.arith.specs.Scalar.{isFinite}
-use Rattle.vector.specs.Vector.{allFinite}
-use Rattle.vector.specs.Laws.{finite-at}
+use Rattle.reductions.specs.Reductions.{allFinite}
+use Rattle.reductions.specs.Laws.{finite-at}
 use Rattle.block.specs.Block.{Block, word}
 use Rattle.block.specs.Plan.{time}
 use Rattle.block.specs.Keeps.{bounded, bounded-true}

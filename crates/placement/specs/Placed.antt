@@ -6,7 +6,7 @@ use lib.ListN.{length}
 use lib.IntN.{ℤ}
 use lib.Ieee.{Float}
 use Rattle.folds.specs.Fold.{both, pick}
-use Rattle.vector.specs.Vector.{allFinite}
+use Rattle.reductions.specs.Reductions.{allFinite}
 use Rattle.block.specs.Block.{Block}
 use Rattle.block.specs.Keeps.{bounded}
 use Rattle.block.specs.Gap.{gap}

@@ -10,7 +10,7 @@ ghost use Rattle.answer.specs.File.{fileSize, Written};
 ghost use Rattle.answer.specs.Back.{Sized};
 ghost use Rattle.placement.specs.Placed as Placed;
 ghost use Rattle.placement.specs.Placed.{answerFor};
-ghost use Rattle.placement.specs.Held.{answerIn, Holds};
+ghost use Rattle.placement.specs.Held.{answerIn, Holds, Left};
 ghost use Rattle.placement.specs.Code.{writtenOf};
 
 // How many multipliers a block's problem has at most, anchors and spans, and how many prices: the cap's too.
@@ -98,7 +98,7 @@ pub fn written(
 }
 
 // Writes the answer file to the front of the slice, and its length to `written`.
-pub fn write_answer(p: Placement, out: &mut [u8], written: &mut u64) -> u32
+fn write_answer(p: Placement, out: &mut [u8], written: &mut u64) -> u32
     requires { ⌜ Sound (p .block) ⌝ }
     requires { ⌜ Sized (answerIn p) ⌝ }
     ensures { λ r. ⌜ Written (answerIn p) (now (out .entry)) r (now (out .exit)) ⌝ }
@@ -111,4 +111,15 @@ pub fn write_answer(p: Placement, out: &mut [u8], written: &mut u64) -> u32
     let prices = p.prices;
     *written = answer::file_size(n, k) as u64;
     answer::write(out, &times[..n], &prices[..k], p.gap, p.passes)
+}
+
+// Writes the answer file and its length; a refusal writes nothing.
+pub fn write(p: Placement, out: &mut [u8], written: &mut u64) -> u32
+    requires { ⌜ (p .number ≡ 0 → Sound (p .block) × Sized (answerIn p)) ⌝ }
+    ensures { λ r. ⌜ Left p (now (out .entry)) (now (written .entry)) r (now (out .exit)) (now (written .exit)) ⌝ }
+{
+    if p.number == 0 {
+        return write_answer(p, out, written);
+    }
+    p.number
 }

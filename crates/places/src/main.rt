@@ -9,9 +9,6 @@ ghost use Rattle.listing.specs.Appended.{Listed};
 ghost use Rattle.listing.specs.Longest.{longest};
 ghost use Rattle.places.specs.Places.{listing};
 
-// What is kept of a file: the longest block and a header after it, since no byte past them changes the reading.
-const KEPT: usize = 2346;
-
 // The longest listing.
 const LISTING: usize = 672;
 
@@ -24,24 +21,17 @@ fn listing_of(block: &[u8], out: &mut [u8]) -> usize
         format::MAX_WORDS,
         format::MAX_ANCHORS + format::MAX_SPANS + 1,
     );
-    let p = service::placed(block, room);
-    if p.number == 0 {
-        let b = p.block;
-        let n = b.words;
-        let times = p.times;
-        return listing::plan(b, &times[..n], p.gap, p.passes, out);
-    }
-    listing::refused(p.number, out)
+    placement_listing::listing_of(service::placed(block, room), out)
 }
 
 // The listing of whatever file it is of which `kept` holds n bytes: all, or the first, as many as there is room for.
-fn listing_of_kept(kept: [u8; KEPT], n: usize, out: &mut [u8]) -> usize
+fn listing_of_kept(kept: [u8; format::KEPT], n: usize, out: &mut [u8]) -> usize
     requires { ⌜ (n ≤ length kept) × (longest ≤ length (now out)) ⌝ }
     ensures { λ r. ⌜ ((file : List ℕ) → take (length kept) file ≡ take n kept
         → Listed (listing file) (now (out .entry)) r (now (out .exit))) ⌝ }
     ensures { λ r. ⌜ r ≤ length (now (out .exit)) ⌝ }
 {
-    listing_of(&kept[..n], out)
+    listing_of(format::kept(&kept, n), out)
 }
 
 // Reads on to the end of standard input.
@@ -55,7 +45,7 @@ fn skip_rest() {
 }
 
 fn main() {
-    let mut kept = [0u8; KEPT];
+    let mut kept = [0u8; format::KEPT];
     let n = io::read_full(STDIN_FILENO, &mut kept);
     skip_rest();
     let mut text = [0u8; LISTING];

@@ -10,11 +10,11 @@ use borrow.Author.Tests.{eqb-true, leb-true}
 use Rattle.folds.specs.Fold.{pick, both, both-true, Out, out}
 use Rattle.folds.specs.Marks.{marked, rising}
 use Rattle.sizes.specs.Sizes as Sizes
-use Rattle.triangular.specs.Triangular.{positiveDefinite}
+use Rattle.cholesky.specs.Cholesky.{positiveDefinite}
 use Rattle.scaled.specs.System.{System, system}
-use Rattle.factor_update.specs.Factor.{Rising}
+use Rattle.variable_set.specs.Rising.{Rising}
 use Rattle.factor_update.specs.Factor as Factor
-use Rattle.factor_update.specs.Laws.{rising-chosen}
+use Rattle.variable_set.specs.Laws.{rising-chosen}
 use Rattle.factoring.specs.Kept as Kept
 use Rattle.range_space.specs.Factored.{FactoredSolution, some, none, solveFactored}
 use Rattle.probe.specs.Probe.{shaped}

@@ -8,13 +8,13 @@ use lib.ListN.{length}
 use lib.Ieee.{Float, nan}
 use borrow.Author.Tests.{eqb-true}
 use Rattle.folds.specs.Fold.{pick, both, both-true, Out, out}
-use Rattle.vector.specs.Vector as Vector
-use Rattle.triangular.specs.Triangular as Triangular
+use Rattle.reductions.specs.Reductions as Reductions
+use Rattle.cholesky.specs.Cholesky as Cholesky
 use Rattle.eigen.specs.Eigen.{Eigen, nothing, symmetricEigen}
 
 -- NaN where b is the shorter
 unfoldable pub dot : (a b : List Float) → Float
-dot a b = pick (leb (length a) (length b)) (Vector.dot (length a) a b) nan
+dot a b = pick (leb (length a) (length b)) (Reductions.dot (length a) a b) nan
 
 -- whether the slices are those of n variables, at most 48
 unfoldable pub shaped : (n a room values vectors : ℕ) → Bool
@@ -25,7 +25,7 @@ eigen n a room values vectors = pick (shaped n (length a) room values vectors) (
 
 -- the factor of a symmetric matrix of at most 48 rows
 unfoldable pub cholesky : (n : ℕ) (a : List Float) → Out (List Float)
-cholesky n a = pick (leb n 48) (pick (leb (n * n) (length a)) (Triangular.cholesky n a) (out false a)) (out false a)
+cholesky n a = pick (leb n 48) (pick (leb (n * n) (length a)) (Cholesky.cholesky n a) (out false a)) (out false a)
 
 -- a hook's answer, 1 or 0, beside the lists
 abbrev pub hook : {A : Type 0} (r : ℕ) (l : A) → Out A

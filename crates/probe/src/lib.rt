@@ -27,7 +27,7 @@ pub extern "C" fn probe_dot(a: &[f64], b: &[f64]) -> f64
     ensures { λ r. ⌜ r ≡ Probe.dot (now (a .entry)) (now (b .entry)) ⌝ }
 {
     if a.len() <= b.len() {
-        return vector::dot(a, b, a.len());
+        return reductions::dot(a, b, a.len());
     }
     arith::nan()
 }
@@ -43,7 +43,7 @@ pub extern "C" fn probe_cholesky(a: &mut [f64], n: usize) -> u32
     if n * n > a.len() {
         return 0;
     }
-    if triangular::cholesky(a, n) {
+    if cholesky::cholesky(a, n) {
         return 1;
     }
     0
@@ -107,7 +107,7 @@ fn all_but(n: usize, i: usize, list: &mut [usize]) -> usize
 {
     let mut s = [true; sizes::ORIGINALS];
     s[i] = false;
-    factor_update::rising(s, n, list)
+    variable_set::rising(s, n, list)
 }
 
 fn changed(
@@ -186,7 +186,7 @@ fn fresh(q: &[f64], n: usize, l: &mut [f64], room: &mut [f64]) -> bool
     }
     if shaped(n, q.len(), l.len(), n, room.len()) {
         let mut indices = [0; sizes::ORIGINALS];
-        let k = factor_update::rising([true; sizes::ORIGINALS], n, &mut indices);
+        let k = variable_set::rising([true; sizes::ORIGINALS], n, &mut indices);
         return factoring::fresh(q, n, &indices[..k], l, room);
     }
     false
@@ -320,7 +320,7 @@ fn answer(
 {
     if matrices(n, m, l.len(), k.len(), e.len(), w.len(), gram.len()) {
         if vectors(n, m, c.len(), b.len(), x.len(), multipliers.len()) {
-            if triangular::positive_definite(l, n) {
+            if cholesky::positive_definite(l, n) {
                 return solved(l, k, c, e, b, n, m, noise, w, gram, x, multipliers);
             }
             return false;

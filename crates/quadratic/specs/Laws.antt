@@ -9,7 +9,7 @@ use lib.ListN.{length}
 use lib.Ieee.{Float}
 use Rattle.folds.specs.Fold.{pick-false, both-true, both-first, both-yes}
 use Rattle.sizes.specs.Sizes as Sizes
-use Rattle.vector.specs.Vector.{anyNan}
+use Rattle.reductions.specs.Reductions.{anyNan}
 use Rattle.quadratic.specs.Quadratic.{quadratic, sized, long, shaped, blank}
 use Rattle.quadratic.specs.Holds.{Shape}
 

@@ -8,7 +8,7 @@ use lib.Dec.{leb, eqb}
 use lib.Ieee.{Float}
 use Rattle.folds.specs.Fold.{pick, both}
 use Rattle.sizes.specs.Sizes as Sizes
-use Rattle.vector.specs.Vector.{anyNan}
+use Rattle.reductions.specs.Reductions.{anyNan}
 
 -- the arguments: `q`, `c`, `e`, `b`, `bounds` (lower, upper and the rows' a, lower, upper), `kinks` (at, slopes), `start`
 pub data Quadratic : Type 0 where

@@ -135,14 +135,14 @@ pub fn blank(
     requires { ⌜ (n ≤ length (now lower)) × (n ≤ length (now upper)) × (r ≤ length (now «row_lower»)) × (r ≤ length (now «row_upper»)) ⌝ }
     ensures { λ t. ⌜ t ≡ Definition.blank n r (now (lower .entry)) (now (upper .entry)) (now («row_lower» .entry)) (now («row_upper» .entry)) ⌝ }
 {
-    if vector::any_nan(lower, n) {
+    if reductions::any_nan(lower, n) {
         return true;
     }
-    if vector::any_nan(upper, n) {
+    if reductions::any_nan(upper, n) {
         return true;
     }
-    if vector::any_nan(row_lower, r) {
+    if reductions::any_nan(row_lower, r) {
         return true;
     }
-    vector::any_nan(row_upper, r)
+    reductions::any_nan(row_upper, r)
 }

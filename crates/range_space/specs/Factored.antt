@@ -5,8 +5,10 @@ use mathlib.Core.Bool.{Bool, true, false}
 use mathlib.Core.List.{List}
 use lib.Ieee.{Float}
 use Rattle.folds.specs.Fold.{tab, pick, Out, out}
-use Rattle.vector.specs.Vector.{norm, copy, add, sub, div}
-use Rattle.matrix.specs.Matrix.{column, mulVec, trMulVec, trMul, columnsDivided}
+use Rattle.reductions.specs.Reductions.{norm}
+use Rattle.vector.specs.Vector.{copy, add, sub, div}
+use Rattle.columns.specs.Columns.{column}
+use Rattle.matrix.specs.Matrix.{mulVec, trMulVec, trMul, columnsDivided}
 use Rattle.triangular.specs.Triangular.{solveLower, solveLowerColumns, trSolveLower, solve}
 use Rattle.scaled.specs.System.{System, system}
 use Rattle.scaled.specs.Scaled.{kktResidual, withinRounding}

@@ -35,7 +35,7 @@ fn lengths(w: &[f64], n: usize, m: usize) -> [f64; sizes::COLUMNS]
 {
     let mut y = [0.0; sizes::COLUMNS];
     for j in 0..m {
-        y[j] = vector::norm(matrix::column(w, n, m, j), n);
+        y[j] = reductions::norm(columns::column(w, n, m, j), n);
     }
     y
 }

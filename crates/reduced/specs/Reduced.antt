@@ -6,8 +6,10 @@ use lib.Ieee.{Float}
 use Rattle.folds.specs.Fold.{fold, pick}
 use Rattle.arith.specs.Float.{fmul, fdiv, f0, epsilon, fromℕ, at}
 use Rattle.arith.specs.Scalar.{max}
-use Rattle.vector.specs.Vector.{dot, amax, add, sub, addScaled, filled}
-use Rattle.matrix.specs.Matrix.{column, index, mul, trMul, mulVec, trMulVec}
+use Rattle.reductions.specs.Reductions.{dot, amax}
+use Rattle.vector.specs.Vector.{add, sub, addScaled, filled}
+use Rattle.columns.specs.Columns.{column}
+use Rattle.matrix.specs.Matrix.{index, mul, trMul, mulVec, trMulVec}
 use Rattle.eigen.specs.Eigen.{Eigen, eigen, nothing, symmetricEigen, range}
 use Rattle.reduced.specs.declared.Hessian.{Hessian}
 

@@ -63,7 +63,7 @@ fn cutoff(values: &[f64], k: &[f64], n: usize, d: usize) -> f64
     requires { ⌜ (n ≤ Sizes.originals) × (n * n ≤ length (now k)) × (d ≤ length (now values)) ⌝ }
     ensures { λ r. ⌜ r ≡ Definition.cutoff n d (now (k .entry)) (now (values .entry)) ⌝ }
 {
-    let largest = arith::max(vector::amax(values, d), vector::amax(k, n * n));
+    let largest = arith::max(reductions::amax(values, d), reductions::amax(k, n * n));
     largest * arith::from_usize(n + 1) * arith::EPSILON
 }
 
@@ -114,8 +114,8 @@ fn range_one(values: &[f64], vectors: &[f64], d: usize, gradient: &[f64], j: usi
     ensures { λ _. ⌜ now (v .exit)
         ≡ Definition.rangeOne d (now (values .entry)) (now (vectors .entry)) (now (gradient .entry)) j (now (v .entry)) ⌝ }
 {
-    let w = matrix::column(vectors, d, d, j);
-    vector::add_scaled(v, d, w, vector::dot(w, gradient, d) / values[j]);
+    let w = columns::column(vectors, d, d, j);
+    vector::add_scaled(v, d, w, reductions::dot(w, gradient, d) / values[j]);
 }
 
 // The same for each eigenvector that `range` numbers.

@@ -34,7 +34,7 @@ fn compare_dot(n: usize, a: &[f64], b: &[f64], c: &[f64]) -> usize {
     if b.len() != n {
         return 1;
     }
-    compare_number(vector::dot(a, b, n), c)
+    compare_number(reductions::dot(a, b, n), c)
 }
 
 // The number of a vector that kind 2, 3 or 4 asks for.
@@ -42,12 +42,12 @@ fn size(kind: usize, n: usize, a: &[f64]) -> f64
     requires { ⌜ n ≤ length (now a) ⌝ }
 {
     if kind == 2 {
-        return vector::norm(a, n);
+        return reductions::norm(a, n);
     }
     if kind == 3 {
-        return vector::scaled_norm(a, n);
+        return reductions::scaled_norm(a, n);
     }
-    vector::amax(a, n)
+    reductions::amax(a, n)
 }
 
 fn compare_size(kind: usize, n: usize, a: &[f64], c: &[f64]) -> usize {
@@ -63,7 +63,7 @@ fn compare_cholesky(n: usize, answered: bool, a: &mut [f64], c: &[f64]) -> usize
     if replay::area(n, n) != a.len() {
         return 1;
     }
-    if triangular::cholesky(a, n) {
+    if cholesky::cholesky(a, n) {
         if answered {
             return replay::lower_differing(&a[..], n, c);
         }
@@ -81,7 +81,7 @@ fn compare_positive_definite(n: usize, answered: bool, a: &[f64], c: &[f64]) -> 
     if c.len() != 0 {
         return 1;
     }
-    if triangular::positive_definite(a, n) {
+    if cholesky::positive_definite(a, n) {
         return replay::one_if(!answered);
     }
     replay::one_if(answered)
@@ -223,7 +223,7 @@ fn compare_rotate(x: Case, a: &mut [f64], b: &mut [f64], c: &[f64], d: &[f64]) -
     if a.len() != b.len() {
         return 1;
     }
-    eigen::rotate(a, b, n, p, q);
+    rotation::rotate(a, b, n, p, q);
     compare_both(&a[..], &b[..], c, d)
 }
 

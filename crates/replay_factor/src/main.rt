@@ -5,7 +5,7 @@ ghost use Prim.Native.Nat.{_*_, _≤_};
 ghost use lib.ListN.{length};
 ghost use Rattle.sizes.specs.Sizes as Sizes;
 ghost use Rattle.scaled.specs.System.{Sized};
-ghost use Rattle.factor_update.specs.Room.{Block};
+ghost use Rattle.factor_update.specs.Block.{Block};
 ghost use Rattle.factoring.specs.Kept as Kept;
 use factoring::Factoring;
 
@@ -36,7 +36,7 @@ fn set_differs(kept: [bool; ORIGINALS], bits: usize) -> bool {
 // How many are in a set.
 fn size(set: [bool; ORIGINALS]) -> usize {
     let mut list = [0; ORIGINALS];
-    factor_update::rising(set, ORIGINALS, &mut list)
+    variable_set::rising(set, ORIGINALS, &mut list)
 }
 
 // Whether the last singular set is not that of these bits, which are 0 where there is none.
@@ -116,7 +116,7 @@ fn update(s: &[u8], q: &[f64], n: usize, originals: usize, l: &mut [f64], w: Seq
     let bits = replay::number32(s, replay::past(s, w.at, 1));
     let mut list = [0; ORIGINALS];
     let mut room = [0.0; 1536];
-    let k = factor_update::rising(marks(bits), originals, &mut list);
+    let k = variable_set::rising(marks(bits), originals, &mut list);
     let kept = w.kept;
     let f = kept.update(q, n, originals, &list[..k], l, &mut room);
     compare_update(s, replay::past(s, w.at, 5), bits, f, l, w)
@@ -254,7 +254,7 @@ fn compare_system(
 ) -> Replayed
     requires { ⌜ Sized n m (now k) (now c) (now e) (now b) × (n * n ≤ length (now l)) ⌝ }
 {
-    if !triangular::positive_definite(l, n) {
+    if !cholesky::positive_definite(l, n) {
         return differing(1);
     }
     let mut w = [0.0; 768];

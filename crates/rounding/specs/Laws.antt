@@ -21,8 +21,8 @@ use Rattle.ints.specs.Diff.{diff, split, minℤ, maxℤ, ltZ-true, ltZ-false, l
 use Rattle.ints.specs.Bound.{_≼_}
 use Rattle.arith.specs.Float.{at}
 use Rattle.arith.specs.Scalar.{isFinite}
-use Rattle.vector.specs.Vector.{allFinite}
-use Rattle.vector.specs.Laws.{finite-all}
+use Rattle.reductions.specs.Reductions.{allFinite}
+use Rattle.reductions.specs.Laws.{finite-all}
 use Rattle.nearest.specs.Whole.{WithinHalf}
 use Rattle.nearest.specs.Value.{one, units, fromℤ, lt-whole, less}
 use Rattle.nearest.specs.Nearest.{nearest, nearest-within-half, nearest-own, nearest-mono, nearest-within, nearest-from, nearest-upto}

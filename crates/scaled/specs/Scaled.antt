@@ -5,8 +5,10 @@ use lib.Ieee.{Float, binary64, lt, le, eq, ofBits}
 use Rattle.folds.specs.Fold.{tab, pick}
 use Rattle.arith.specs.Float.{fadd, fmul, fdiv, f0, f1, fromℕ, at}
 use Rattle.arith.specs.Scalar.{isFinite}
-use Rattle.vector.specs.Vector.{scaledNorm, add, sub}
-use Rattle.matrix.specs.Matrix.{trace, mulVec, trMulVec, columnsAmax}
+use Rattle.reductions.specs.Reductions.{scaledNorm}
+use Rattle.vector.specs.Vector.{add, sub}
+use Rattle.columns.specs.Columns.{columnsAmax}
+use Rattle.matrix.specs.Matrix.{trace, mulVec, trMulVec}
 use Rattle.scaled.specs.System.{System, system}
 use Rattle.scaled.specs.declared.Residual.{Residual}
 use Rattle.scaled.specs.declared.Rounding.{Rounding}

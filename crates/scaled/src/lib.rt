@@ -53,7 +53,7 @@ fn stationarity(
     matrix::mul_vec(e, n, m, multipliers, &mut el);
     vector::add(&kx[..n], &el[..n], n, &mut left);
     vector::sub_from(&mut left, n, c);
-    vector::scaled_norm(&left[..n], n)
+    reductions::scaled_norm(&left[..n], n)
 }
 
 // ‖Eᵀx − b‖
@@ -64,7 +64,7 @@ fn feasibility(e: &[f64], b: &[f64], x: &[f64], n: usize, m: usize) -> f64
     let mut left = [0.0; sizes::COLUMNS];
     matrix::tr_mul_vec(e, n, m, x, &mut left);
     vector::sub_from(&mut left, m, b);
-    vector::scaled_norm(&left[..m], m)
+    reductions::scaled_norm(&left[..m], m)
 }
 
 fn size(
@@ -83,10 +83,11 @@ fn size(
         ≡ Definition.size (system n m (now (k .entry)) (now (c .entry)) (now (e .entry)) (now (b .entry)))
         (now (x .entry)) (now (multipliers .entry)) noise ⌝ }
 {
-    let x_norm = vector::scaled_norm(x, n);
-    let k_terms = vector::scaled_norm(k, n * n) * x_norm;
-    let e_terms = vector::scaled_norm(e, n * m) * (x_norm + vector::scaled_norm(multipliers, m));
-    k_terms + e_terms + vector::scaled_norm(c, n) + vector::scaled_norm(b, m) + noise
+    let x_norm = reductions::scaled_norm(x, n);
+    let k_terms = reductions::scaled_norm(k, n * n) * x_norm;
+    let e_terms = reductions::scaled_norm(e, n * m)
+        * (x_norm + reductions::scaled_norm(multipliers, m));
+    k_terms + e_terms + reductions::scaled_norm(c, n) + reductions::scaled_norm(b, m) + noise
 }
 
 pub fn kkt_residual(
@@ -168,7 +169,7 @@ pub fn column_scales(e: &[f64], n: usize, m: usize) -> [f64; sizes::COLUMNS]
     ensures { λ r. ⌜ take m r ≡ Definition.columnScales n m (now (e .entry)) ⌝ }
 {
     let mut y = [0.0; sizes::COLUMNS];
-    matrix::columns_amax(e, n, m, &mut y);
+    columns::columns_amax(e, n, m, &mut y);
     above_0_or_1_each(&mut y, m);
     y
 }

@@ -19,7 +19,7 @@ use Rattle.segments.specs.declared.State.{State}
 use Rattle.segments.specs.declared.State.the-variants.{At, Free}
 use Rattle.segments.specs.declared.Spot.{Spot}
 use Rattle.segments.specs.Segments.{last, Cut, IsFree, Placed, segmentsAt, stateAt, AllCut, AllPlaced}
-use Rattle.segments.specs.Start.{fixed, below, meets, inside, place, allFixed, allPlaced, first}
+use Rattle.segments.specs.Start.{fixed, below, meets, inside, place, first}
 use Rattle.segments.specs.Freeing.{freed, freeOne, freeAll}
 
 -- what is not at or below isn't below
@@ -59,9 +59,9 @@ module _ (s : Segments) (cut : Cut s) (x : Float) where
       (λ _. pick-by (Placed s) (le x (at (s .points) 0)) {x = At 0} (λ _. omega arith)
       (λ _. pick-by (Placed s) (le (at (s .points) (last s)) x) {x = At (last s)} {y = inside s x} (λ _. omega arith) inside-placed))
 
--- so do those of n variables, and any others made by index
+-- so do those of n variables that are made by index
 module _ (n : ℕ) (segments : List Segments) (o r : List Spot) where
-  tab-placed : (g : ℕ → State) → ((i : ℕ) → i < n → Placed (segmentsAt segments i) (g i)) →
+  pub tab-placed : (g : ℕ → State) → ((i : ℕ) → i < n → Placed (segmentsAt segments i) (g i)) →
       r ≡ over (tab n (λ i. record { state = g i })) o → AllPlaced n segments r
   tab-placed g h q i l =
       let spot : ℕ → Spot = λ i. record { state = g i } in
@@ -69,14 +69,6 @@ module _ (n : ℕ) (segments : List Segments) (o r : List Spot) where
       let e : stateAt r i ≡ g i =
       ap (λ (t : List Spot). stateAt t i) q ∙ ap (λ (t : Spot). t .state) (over-in first (tab n spot) o i k ∙ getD-tab first n i spot l) in
       subst (λ (t : State). Placed (segmentsAt segments i) t) (sym e) (h i l)
-
-  pub all-placed : (x : List Float) → AllCut n segments → r ≡ over (allPlaced n segments x) o → AllPlaced n segments r
-  unfolding allPlaced
-  all-placed x cut q = tab-placed (λ i. place (segmentsAt segments i) (at x i)) (λ i l. place-placed (segmentsAt segments i) (cut i l) (at x i)) q
-
-pub length-allFixed : (n : ℕ) (segments : List Segments) → length (allFixed n segments) ≡ n
-unfolding allFixed
-length-allFixed n segments = length-tab n _
 
 -- ---- a held variable is not free, and a free one is in one segment, which lies between two points
 pub held-not-free : (t : State) (p : ℕ) → t ≡ At p → IsFree t → ⊥

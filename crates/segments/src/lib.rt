@@ -1,11 +1,10 @@
-// qp.rs: `Segments`, `State`, and the start of `solve_piecewise_in_units`, of up to 48 variables and slacks.
+// qp.rs: `Segments`, `State`, a variable's start in `solve_piecewise_in_units`, and the freeing of all, up to 48 variables and slacks.
 ghost use mathlib.Core.Path.{_≡_};
-ghost use mathlib.Core.Bool.{false};
 ghost use Prim.Native.Nat.{_≤_, _<_, min};
-ghost use lib.ListN.{length, replicate};
-ghost use Rattle.folds.specs.Fold.{over, pick};
+ghost use lib.ListN.{length};
+ghost use Rattle.folds.specs.Fold.{pick};
 ghost use Rattle.sizes.specs.Sizes as Sizes;
-ghost use Rattle.arith.specs.Float.{f0, at as elementAt};
+ghost use Rattle.arith.specs.Float.{at as elementAt};
 ghost use Rattle.segments.specs.Segments as Definition;
 ghost use Rattle.segments.specs.Segments.{Cut, AllCut, IsFree, Placed, AllPlaced};
 ghost use Rattle.segments.specs.Start as Start;
@@ -182,80 +181,6 @@ impl Segments {
         }
         self.inside(x)
     }
-}
-
-pub fn all_fixed(segments: [Segments; sizes::VARIABLES], n: usize) -> [bool; sizes::VARIABLES]
-    requires { ⌜ (n ≤ Sizes.variables) × AllCut n segments ⌝ }
-    ensures { λ r. ⌜ r ≡ over (Start.allFixed n segments) (replicate Sizes.variables false) ⌝ }
-{
-    let mut fixed = [false; sizes::VARIABLES];
-    for i in 0..n {
-        let s = segments[i];
-        fixed[i] = s.fixed();
-    }
-    fixed
-}
-
-pub fn all_held(
-    segments: [Segments; sizes::VARIABLES],
-    n: usize,
-    start: &[f64],
-) -> [f64; sizes::VARIABLES]
-    requires { ⌜ (n ≤ Sizes.variables) × (n ≤ length (now start)) × AllCut n segments ⌝ }
-    ensures { λ r. ⌜ r ≡ over (Start.allHeld n segments (now (start .entry))) (replicate Sizes.variables f0) ⌝ }
-{
-    let mut x = [0.0; sizes::VARIABLES];
-    for i in 0..n {
-        let s = segments[i];
-        x[i] = s.held(start[i]);
-    }
-    x
-}
-
-pub fn all_placed(
-    segments: [Segments; sizes::VARIABLES],
-    n: usize,
-    x: &[f64],
-) -> [Spot; sizes::VARIABLES]
-    requires { ⌜ (n ≤ Sizes.variables) × (n ≤ length (now x)) × AllCut n segments ⌝ }
-    ensures { λ r. ⌜ r ≡ over (Start.allPlaced n segments (now (x .entry))) (replicate Sizes.variables Start.first) ⌝ }
-    ensures { λ r. ⌜ AllPlaced n segments r ⌝ }
-{
-    let mut state = [Spot {
-        state: State::At(0),
-    }; sizes::VARIABLES];
-    for i in 0..n {
-        let s = segments[i];
-        state[i] = Spot {
-            state: s.place(x[i]),
-        };
-    }
-    state
-}
-
-fn slopes_amax(s: Segments, from: f64) -> f64
-    requires { ⌜ Cut s ⌝ }
-    ensures { λ r. ⌜ r ≡ Start.slopesAmax s from ⌝ }
-{
-    let slopes = s.slopes;
-    let last = s.last();
-    let mut m = from;
-    for j in 0..last {
-        m = arith::max(m, arith::abs(slopes[j]));
-    }
-    m
-}
-
-// The largest slope of all.
-pub fn slope_amax(segments: [Segments; sizes::VARIABLES], n: usize) -> f64
-    requires { ⌜ (n ≤ Sizes.variables) × AllCut n segments ⌝ }
-    ensures { λ r. ⌜ r ≡ Start.slopeAmax n segments ⌝ }
-{
-    let mut m = 0.0;
-    for i in 0..n {
-        m = slopes_amax(segments[i], m);
-    }
-    m
 }
 
 fn min(a: usize, b: usize) -> usize

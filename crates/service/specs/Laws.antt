@@ -1,5 +1,5 @@
 -- The service by its cases, and what follows of an answer.
-use mathlib.Core.Path.{_≡_, refl, sym, ap, subst}
+use mathlib.Core.Path.{_≡_, refl, sym, ap, subst, _∙_}
 use mathlib.Core.Logic.{_⊎_, inl, inr, ⊎-elim}
 use mathlib.Core.Bool.{Bool, true, false}
 use mathlib.Core.List.{List}
@@ -17,8 +17,10 @@ use Rattle.format.specs.Read.{Outcome, read}
 use Rattle.format.specs.InRange.{read-ranged}
 use Rattle.gap.specs.Prices.{priceCount}
 use Rattle.answer.specs.File.{Answer, fileSize}
-use Rattle.cap.specs.Capped as Engine
-use Rattle.cap.specs.Capped.{Capped, optimal, engine}
+use Rattle.minimum.specs.Capped as Engine
+use Rattle.minimum.specs.Capped.{Capped, optimal}
+use Rattle.outputs.specs.Capped.{CappedAnswer, wrongShape, blankBound, engine, number}
+use Rattle.outputs.specs.Capped.{number-optimal, number-nonFinite, number-singular, number-notConverged}
 use Rattle.rounding.specs.Lists.{timesOf, pricesOf}
 use Rattle.block_solve.specs.Solve.{solveBlock}
 use Rattle.block_solve.specs.Laws.{solved-sized, engine-always, solved-bounded}
@@ -34,14 +36,14 @@ module _ (b : Block) (room : ℕ) where
   too-small h = pick-false _ _ (lt-leb _ _ h) refl
 
   module _ (h : fileSize (length (b .words)) (priceCount b + 1) ≤ room) where
-    pub engine-refused : (n : ℕ) → n ≡ Engine.number (solveBlock b) → (n ≡ 0 → ⊥) → refused n ≡ placeBlock b room
-    unfolding placeBlock ofEngine Engine.number
+    pub engine-refused : (n : ℕ) → n ≡ number (solveBlock b) → (n ≡ 0 → ⊥) → refused n ≡ placeBlock b room
+    unfolding placeBlock ofEngine
     engine-refused n e z = pick-true _ _ (le-leb _ _ h) (refuses (solveBlock b) e)
       where
-        refuses : (a : Engine.CappedAnswer) → n ≡ Engine.number a → refused n ≡ ofEngine b a
-        refuses Engine.wrongShape q = ap refused q
-        refuses Engine.blankBound q = ap refused q
-        refuses (engine (optimal x multipliers passes raise)) q = absurd (z q)
+        refuses : (a : CappedAnswer) → n ≡ number a → refused n ≡ ofEngine b a
+        refuses wrongShape q = ap refused q
+        refuses blankBound q = ap refused q
+        refuses (engine (optimal x multipliers passes raise)) q = absurd (z (q ∙ number-optimal x multipliers passes raise))
         refuses (engine Engine.nonFinite) q = ap refused q
         refuses (engine Engine.singular) q = ap refused q
         refuses (engine Engine.unbounded) q = ap refused q
@@ -76,18 +78,18 @@ module _ {b : Block} (R : Ranged b) where
       (written-by R x multipliers raise (z .x-long) (z .multipliers-long) passes)
 
   engine-numbered : (o : Capped) → solveBlock b ≡ engine o → Numbered (ofEngine b (engine o))
-  unfolding ofEngine numberOf Engine.number
+  unfolding ofEngine numberOf
   engine-numbered (optimal x multipliers passes raise) s = written-numbered x multipliers passes raise s
-  engine-numbered Engine.nonFinite s = inr (inr (inl refl))
-  engine-numbered Engine.singular s = inr (inr (inr (inl refl)))
+  engine-numbered Engine.nonFinite s = inr (inr (inl number-nonFinite))
+  engine-numbered Engine.singular s = inr (inr (inr (inl number-singular)))
   engine-numbered Engine.unbounded s = absurd (solved-bounded b s)
-  engine-numbered Engine.notConverged s = inr (inr (inr (inr refl)))
+  engine-numbered Engine.notConverged s = inr (inr (inr (inr number-notConverged)))
 
   block-numbered : (room : ℕ) → Numbered (placeBlock b room)
   unfolding placeBlock numberOf
   block-numbered room =
       let a = engine-always b R in
-      pick-keep Numbered _ (subst (λ (e : Engine.CappedAnswer). Numbered (ofEngine b e)) (sym (a .1)) (engine-numbered (a .0) (a .1))) (inr (inl refl))
+      pick-keep Numbered _ (subst (λ (e : CappedAnswer). Numbered (ofEngine b e)) (sym (a .1)) (engine-numbered (a .0) (a .1))) (inr (inl refl))
 
 pub place-numbered : (s : List ℕ) (room : ℕ) (b : Block) → read s ≡ Outcome.block b → Numbered (place s room)
 place-numbered s room b e = subst Numbered (block-placed s room b e) (block-numbered (read-ranged s b e) room)
@@ -115,10 +117,10 @@ module _ {b : Block} (R : Ranged b) {a : Answer} where
       (λ w. absurd (let y : _≡_ {A = ℕ} 0 1 = cc in omega arith))
       (written-by R x multipliers raise (z .x-long) (z .multipliers-long) passes)
 
-  engine-answer : (e : Engine.CappedAnswer) → solveBlock b ≡ e → ofEngine b e ≡ answered a → Answers b a
+  engine-answer : (e : CappedAnswer) → solveBlock b ≡ e → ofEngine b e ≡ answered a → Answers b a
   unfolding ofEngine
-  engine-answer Engine.wrongShape s e = absurd (let z : _≡_ {A = ℕ} 0 1 = cc in omega arith)
-  engine-answer Engine.blankBound s e = absurd (let z : _≡_ {A = ℕ} 0 1 = cc in omega arith)
+  engine-answer wrongShape s e = absurd (let z : _≡_ {A = ℕ} 0 1 = cc in omega arith)
+  engine-answer blankBound s e = absurd (let z : _≡_ {A = ℕ} 0 1 = cc in omega arith)
   engine-answer (engine (optimal x multipliers passes raise)) s e = written-answer x multipliers passes raise s e
   engine-answer (engine Engine.nonFinite) s e = absurd (let z : _≡_ {A = ℕ} 0 1 = cc in omega arith)
   engine-answer (engine Engine.singular) s e = absurd (let z : _≡_ {A = ℕ} 0 1 = cc in omega arith)

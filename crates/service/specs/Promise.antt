@@ -13,7 +13,8 @@ use Rattle.gap.specs.Input.{PlanAndPrices}
 use Rattle.answer.specs.File.{Answer}
 use Rattle.answer.specs.Back as Back
 use Rattle.plan_check.specs.Promise.{CostBound}
-use Rattle.cap.specs.Capped.{optimal, engine}
+use Rattle.minimum.specs.Capped.{optimal}
+use Rattle.outputs.specs.Capped.{engine}
 use Rattle.block_solve.specs.Solve.{solveBlock}
 use Rattle.service.specs.Place.{place, numberOf, sliceAfter, writtenAfter}
 

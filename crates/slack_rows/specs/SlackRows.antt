@@ -10,8 +10,10 @@ use Rattle.folds.specs.Fold.{fold, tab, pick, some}
 use Rattle.folds.specs.Chosen.{chosen}
 use Rattle.sizes.specs.Sizes as Sizes
 use Rattle.arith.specs.Float.{fadd, fsub, fmul, fdiv, f0, at, sum}
-use Rattle.vector.specs.Vector.{Below, amax, filled}
-use Rattle.matrix.specs.Matrix.{cell, index}
+use Rattle.reductions.specs.Reductions.{amax}
+use Rattle.vector.specs.Vector.{Below, filled}
+use Rattle.columns.specs.Columns.{cell}
+use Rattle.matrix.specs.Matrix.{index}
 
 -- `first_slack_column + i - originals`
 unfoldable pub slackColumn : (i originals first : ℕ) → ℕ

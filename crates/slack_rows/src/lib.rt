@@ -35,7 +35,7 @@ fn any_entry(e: &[f64], n: usize, m: usize, solved: &[usize], j: usize) -> bool
     ensures { λ r. ⌜ r ≡ SlackRows.anyEntry (now (e .entry)) n (now (solved .entry)) j ⌝ }
 {
     for t in 0..solved.len() {
-        if matrix::get(e, n, m, solved[t], j) != 0.0 {
+        if columns::get(e, n, m, solved[t], j) != 0.0 {
             return true;
         }
     }
@@ -107,7 +107,7 @@ fn others(e: &[f64], n: usize, m: usize, solved: &[usize], step: &[f64], j: usiz
 {
     let mut sum = 0.0;
     for t in 0..solved.len() {
-        sum = sum + matrix::get(e, n, m, solved[t], j) * step[t];
+        sum = sum + columns::get(e, n, m, solved[t], j) * step[t];
     }
     sum
 }
@@ -134,7 +134,7 @@ fn slack_move(
         ≡ SlackRows.slackMove (now (e .entry)) n (now (solved .entry)) (now (step .entry)) (now (residuals .entry)) originals first i ⌝ }
 {
     let j = slack_column(i, originals, first);
-    (residuals[j] - others(e, n, m, solved, step, j)) / matrix::get(e, n, m, i, j)
+    (residuals[j] - others(e, n, m, solved, step, j)) / columns::get(e, n, m, i, j)
 }
 
 // Entry k of the step: a variable's, and after them a slack's.
@@ -216,5 +216,5 @@ pub fn step_noise(q: &[f64], count: usize, n: usize, x: &[f64], originals: usize
         × (count ≤ length (now c)) ⌝ }
     ensures { λ r. ⌜ r ≡ SlackRows.stepNoise (now (q .entry)) count n (now (x .entry)) originals (now (c .entry)) ⌝ }
 {
-    vector::amax(q, count * n) * vector::amax(x, originals) + vector::amax(c, count)
+    reductions::amax(q, count * n) * reductions::amax(x, originals) + reductions::amax(c, count)
 }

@@ -3,20 +3,20 @@ use mathlib.Core.Path.{_≡_, _∙_}
 use mathlib.Core.List.{List}
 use Prim.Native.Nat.{ℕ, _+_}
 use lib.Ieee.{Float}
-use Rattle.folds.specs.Fold.{pick-keep}
-use Rattle.vector.specs.Laws.{length-div}
 use Rattle.units.specs.Units.{columnScales, unitsK, unitsC, unitsE, unitsB}
 use Rattle.segments.specs.declared.Segments.{Segments}
-use Rattle.slacks.specs.Slacks.{withSlacksQ, withSlacksE, withZeros, scalesWithSlacks, segmentsArray, slacksStart}
+use Rattle.slack_scales.specs.SlackScales.{scalesWithSlacks}
+use Rattle.slacks.specs.Slacks.{withSlacksQ, withSlacksE, withZeros, segmentsArray, slacksStart}
 use Rattle.iterate.specs.Problem.{problem}
-use Rattle.active.specs.Minimized as Engine
-use Rattle.active.specs.Minimized.{optimal, nonFinite, singular, unbounded, notConverged}
-use Rattle.active.specs.Active.{budget}
-use Rattle.active.specs.Laws.{Filled, Within}
+use Rattle.minimum.specs.Minimized as Engine
+use Rattle.minimum.specs.Counted.{budget}
+use Rattle.minimum.specs.Laws.{Filled, Within}
 use Rattle.in_units.specs.InUnits.{solvePiecewiseInUnits}
 use Rattle.in_units.specs.Laws as InUnits
+use Rattle.original_units.specs.Original.{original}
+use Rattle.original_units.specs.Laws.{original-filled, original-within}
 use Rattle.quadratic.specs.Quadratic.{quadratic}
-use Rattle.slack_solve.specs.SlackSolve.{restored, original, solveScaled, solveWithSlacks, solve}
+use Rattle.slack_solve.specs.SlackSolve.{solveScaled, solveWithSlacks, solve}
 
 -- ---- a solve
 module _ (n m r : ℕ) (c b lower upper a rowLower rowUpper at slopes start : List Float) where
@@ -45,24 +45,6 @@ module _ (n m r : ℕ) (c e b lower upper a rowLower rowUpper at slopes start : 
   solve-from q f g s = s ∙ rw (f, g)
 
 -- ---- an optimal answer has x's n entries and m + r multipliers, and its passes are from 1 to the budget
-module _ (n m r : ℕ) (e b a rowLower rowUpper scales columns : List Float) where
-  original-filled : (s : Engine.Minimized) → Filled n (m + r) (original n m r e b a rowLower rowUpper scales columns s)
-  unfolding original restored
-  original-filled (optimal u multipliers passes) =
-      pick-keep (Filled n (m + r)) _ (length-div n u scales, length-div (m + r) multipliers columns) tt
-  original-filled nonFinite = tt
-  original-filled singular = tt
-  original-filled unbounded = tt
-  original-filled notConverged = tt
-
-  original-within : (budget : ℕ) (s : Engine.Minimized) → Within budget s → Within budget (original n m r e b a rowLower rowUpper scales columns s)
-  unfolding original restored
-  original-within budget (optimal u multipliers passes) w = pick-keep (Within budget) _ w tt
-  original-within budget nonFinite w = tt
-  original-within budget singular w = tt
-  original-within budget unbounded w = tt
-  original-within budget notConverged w = tt
-
 module _ (n m r : ℕ) (q c e b lower upper a rowLower rowUpper at slopes start : List Float) where
   pub solve-filled : Filled n (m + r) (solve (quadratic n m r q c e b lower upper a rowLower rowUpper at slopes start))
   unfolding solve solveWithSlacks

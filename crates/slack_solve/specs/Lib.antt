@@ -1,3 +1,2 @@
 pub mod SlackSolve
-pub mod Holds
 pub mod Laws

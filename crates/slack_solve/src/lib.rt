@@ -1,15 +1,13 @@
 // qp.rs, `solve_piecewise` past its tests: the slacks, `Units`, the engine in work memory of its size, and back in the units of the caller.
 ghost use mathlib.Core.Path.{_≡_};
 ghost use Prim.Native.Nat.{_≤_, _+_, _*_};
-ghost use lib.ListN.{length, take};
+ghost use lib.ListN.{length};
 ghost use Rattle.sizes.specs.Sizes as Sizes;
-ghost use Rattle.active.specs.Minimized.{minimized, minimizedOf};
+ghost use Rattle.minimum.specs.Minimized.{minimizedOf};
 ghost use Rattle.quadratic.specs.Quadratic.{quadratic};
 ghost use Rattle.quadratic.specs.Holds.{Holds};
 ghost use Rattle.slack_solve.specs.SlackSolve as Definition;
-ghost use Rattle.slack_solve.specs.Holds.{Restores};
-use active::Minimum;
-use active::SolveVerdict;
+use minimum::Minimum;
 
 // The entries of a matrix of work memory, which has a row for each variable with the slacks and as many columns, or a column for each column of E
 // with the slacks; and of either in a small problem.
@@ -18,120 +16,6 @@ const ALL_SQUARE: usize = sizes::VARIABLES * sizes::VARIABLES;
 const ALL_TALL: usize = sizes::VARIABLES * sizes::COLUMNS;
 
 const SMALL_ALL: usize = (sizes::FEW + sizes::FEW) * (sizes::FEW + sizes::FEW);
-
-// Whether x meets the constraints and the rows.
-fn feasible(
-    x: &[f64],
-    e: &[f64],
-    b: &[f64],
-    columns: &[f64],
-    a: &[f64],
-    row_lower: &[f64],
-    row_upper: &[f64],
-    n: usize,
-    m: usize,
-    r: usize,
-) -> bool
-    requires { ⌜ (n ≤ Sizes.variables)
-        × (n ≤ length (now x))
-        × (n * m ≤ length (now e))
-        × (m ≤ length (now b))
-        × (m ≤ length (now columns))
-        × (n * r ≤ length (now a))
-        × (r ≤ length (now «row_lower»))
-        × (r ≤ length (now «row_upper»)) ⌝ }
-    ensures { λ t. ⌜ t
-        ≡ Definition.feasible n m r (now (x .entry)) (now (e .entry)) (now (b .entry)) (now (columns .entry)) (now (a .entry))
-        (now («row_lower» .entry)) (now («row_upper» .entry)) ⌝ }
-{
-    if units::checked(x, e, b, columns, n, m) {
-        return slacks::meets_rows(x, a, row_lower, row_upper, n, r);
-    }
-    false
-}
-
-// A point in `Units`, restored, with its multipliers, if it meets the constraints and the rows there.
-fn restored(
-    u: [f64; sizes::VARIABLES],
-    lambda: [f64; sizes::COLUMNS],
-    passes: usize,
-    e: &[f64],
-    b: &[f64],
-    a: &[f64],
-    row_lower: &[f64],
-    row_upper: &[f64],
-    scales: &[f64],
-    columns: &[f64],
-    n: usize,
-    m: usize,
-    r: usize,
-) -> Minimum
-    requires { ⌜ Restores n m r (now e) (now b) (now a) (now «row_lower») (now «row_upper») (now scales) (now columns) ⌝ }
-    ensures { λ s. ⌜ minimizedOf n (m + r) s
-        ≡ Definition.restored n m r (now (e .entry)) (now (b .entry)) (now (a .entry)) (now («row_lower» .entry)) (now («row_upper» .entry))
-        (now (scales .entry)) (now (columns .entry)) (take (n + r) u) (take (m + r) lambda) passes ⌝ }
-{
-    let v = n + r;
-    let w = m + r;
-    let mut x = [0.0; sizes::VARIABLES];
-    vector::div(&u[..v], scales, n, &mut x);
-    if feasible(&x[..n], e, b, columns, a, row_lower, row_upper, n, m, r) {
-        let mut multipliers = [0.0; sizes::COLUMNS];
-        vector::div(&lambda[..w], columns, w, &mut multipliers);
-        return Minimum {
-            verdict: SolveVerdict::Optimal,
-            x: x,
-            multipliers: multipliers,
-            passes: passes,
-        };
-    }
-    active::refused(SolveVerdict::SingularCovariance)
-}
-
-// What is refused passes.
-fn original(
-    verdict: SolveVerdict,
-    u: [f64; sizes::VARIABLES],
-    lambda: [f64; sizes::COLUMNS],
-    passes: usize,
-    e: &[f64],
-    b: &[f64],
-    a: &[f64],
-    row_lower: &[f64],
-    row_upper: &[f64],
-    scales: &[f64],
-    columns: &[f64],
-    n: usize,
-    m: usize,
-    r: usize,
-) -> Minimum
-    requires { ⌜ Restores n m r (now e) (now b) (now a) (now «row_lower») (now «row_upper») (now scales) (now columns) ⌝ }
-    ensures { λ s. ⌜ minimizedOf n (m + r) s
-        ≡ Definition.original n m r (now (e .entry)) (now (b .entry)) (now (a .entry)) (now («row_lower» .entry)) (now («row_upper» .entry))
-        (now (scales .entry)) (now (columns .entry)) (minimized verdict (take (n + r) u) (take (m + r) lambda) passes) ⌝ }
-{
-    match verdict {
-        SolveVerdict::Optimal => restored(
-            u,
-            lambda,
-            passes,
-            e,
-            b,
-            a,
-            row_lower,
-            row_upper,
-            scales,
-            columns,
-            n,
-            m,
-            r,
-        ),
-        SolveVerdict::NonFiniteCovariance => active::refused(SolveVerdict::NonFiniteCovariance),
-        SolveVerdict::SingularCovariance => active::refused(SolveVerdict::SingularCovariance),
-        SolveVerdict::Unbounded => active::refused(SolveVerdict::Unbounded),
-        SolveVerdict::NotConverged => active::refused(SolveVerdict::NotConverged),
-    }
-}
 
 // The solve of Q and E with the slacks, which are given in units, with their scales.
 fn solve_scaled(
@@ -221,7 +105,7 @@ fn solve_with_slacks(
 {
     let v = n + r;
     let w = m + r;
-    let scales = slacks::scales_with_slacks(&q_all[..], a, n, r);
+    let scales = slack_scales::scales_with_slacks(&q_all[..], a, n, r);
     let columns = units::column_scales(&e_all[..], v, w);
     units::units_k(q_all, v, &scales[..v]);
     units::units_e(e_all, v, w, &scales[..v], &columns[..w]);
@@ -247,7 +131,7 @@ fn solve_with_slacks(
     let verdict = s.verdict;
     let u = s.x;
     let lambda = s.multipliers;
-    original(
+    original_units::original(
         verdict,
         u,
         lambda,

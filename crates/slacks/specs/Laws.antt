@@ -1,30 +1,29 @@
 -- Laws of the definitions: how long each list is, what stands at each place, and what the loops make.
-use mathlib.Core.Path.{_≡_, refl, sym, ap, subst, _∙_}
-use mathlib.Core.Bool.{true}
-use mathlib.Core.List.{List, [], _++_}
+use mathlib.Core.Path.{_≡_, refl, sym, subst, _∙_}
+use mathlib.Core.List.{List, []}
 use Prim.Native.Nat.{ℕ, _+_, _-_, _*_, _<_, _≤_}
 use native.Mathlib.Omega.{arith}
 use lib.ListN.{length, take, set, replicate}
 use lib.Seq.{getD-set-same, getD-set-other}
 use lib.Ieee.{Float, nan}
 use borrow.Author.Tests.{lt-ltb, le-ltb, eq-eqb, ne-eqb}
-use Rattle.folds.specs.Fold.{fold, fold-same, tab, over, pick, all-at}
-use Rattle.folds.specs.Tab.{length-tab, length-tabM, getD-tab, tab-same, taken-over, over-tab}
+use Rattle.folds.specs.Fold.{fold, tab, over, pick}
+use Rattle.folds.specs.Tab.{length-tab, length-tabM, getD-tab, taken-over, over-tab}
 use Rattle.folds.specs.Decide.{by-order}
 use Rattle.sizes.specs.Sizes as Sizes
-use Rattle.arith.specs.Float.{fmul, fneg, f0, f1, infinity, at}
+use Rattle.arith.specs.Float.{fmul, fneg, f0, f1, at}
 use Rattle.vector.specs.Vector.{copy, filled}
-use Rattle.vector.specs.Laws.{Same, same-take, length-copy, copy-at, copy-same, length-filled, filled-at, length-mul, mul-at}
-use Rattle.matrix.specs.Matrix.{cell, column, columnDot, trMulVec}
-use Rattle.matrix.specs.Laws.{cell-tabM, trMulVec-at}
-use Rattle.units.specs.Units.{scaleOr1, diagonalScales}
+use Rattle.vector.specs.Laws.{length-copy, copy-at, length-filled, filled-at, length-mul, mul-at}
+use Rattle.columns.specs.Columns.{cell}
+use Rattle.matrix.specs.Matrix.{columnDot, trMulVec}
+use Rattle.columns.specs.Laws.{cell-tabM}
+use Rattle.matrix.specs.Laws.{trMulVec-at}
 use Rattle.segments.specs.declared.Segments.{Segments}
 use Rattle.segments.specs.Segments.{Cut, AllCut, segmentsAt}
-use Rattle.slacks.specs.Slacks.{entryQ, withSlacksQ, entryE, withSlacksE, withZeros, smaller, smallest, slackScale, slackScales}
-use Rattle.slacks.specs.Slacks.{scalesWithSlacks, variableSegments, slackSegments, oneSegments, allSegments, unread, segmentsArray}
+use Rattle.slack_scales.specs.Chain.{length-chain, chain-in, chain-past, tab-chain, take-zeros}
+use Rattle.slacks.specs.Slacks.{entryQ, withSlacksQ, entryE, withSlacksE, withZeros}
+use Rattle.slacks.specs.Slacks.{variableSegments, slackSegments, oneSegments, allSegments, unread, segmentsArray}
 use Rattle.slacks.specs.Slacks.{startWithSlacks, slacksStart}
-use Rattle.slacks.specs.Limits.{meetsRow, meetsRows}
-use Rattle.slacks.specs.Chain.{length-chain, chain-in, chain-past, tab-chain, take-zeros}
 
 -- ---- Q with the slacks
 module _ (n r : ℕ) (q : List Float) where
@@ -98,52 +97,6 @@ module _ (n r : ℕ) (v : List Float) where
   unfolding withZeros
   withZeros-taken k h e = take-zeros n r k (copy n v) (length-copy n v) h e
 
--- ---- the scales
--- an array of which the first n elements are known
-pub same-known : (n m : ℕ) (a l : List Float) → take n a ≡ l → m ≤ n → Same m a l
-same-known n m a l e h k i = sym (same-take n a k (omega arith)) ∙ ap (λ (t : List Float). at t k) e
-
-slackScale-same : (n : ℕ) (x y a : List Float) → Same n x y → slackScale n x a ≡ slackScale n y a
-unfolding slackScale smallest
-slackScale-same n x y a e =
-    ap scaleOr1
-    (fold-same n (λ i scale. smaller scale (at x i) (at a i)) (λ i scale. smaller scale (at y i) (at a i)) infinity (λ i s l. rw (e i l)))
-
-slackScales-same : (n r : ℕ) (x y a : List Float) → Same n x y → slackScales n r x a ≡ slackScales n r y a
-unfolding slackScales
-slackScales-same n r x y a e = tab-same r _ _ (λ j l. slackScale-same n x y (column n a j) e)
-
-pub length-slackScales : (n r : ℕ) (scales a : List Float) → length (slackScales n r scales a) ≡ r
-unfolding slackScales
-length-slackScales n r scales a = length-tab r _
-
-module _ (n r : ℕ) (q a : List Float) where
-  abbrev variables : List Float
-  variables = copy n (diagonalScales (n + r) q)
-
-  abbrev slacks : List Float
-  slacks = slackScales n r (diagonalScales (n + r) q) a
-
-  pub length-scalesWithSlacks : length (scalesWithSlacks n r q a) ≡ n + r
-  unfolding scalesWithSlacks
-  length-scalesWithSlacks = length-chain n r variables slacks (length-copy n _) (length-slackScales n r _ a)
-
-  pub scales-at : (i : ℕ) → i < n → at (scalesWithSlacks n r q a) i ≡ at (diagonalScales (n + r) q) i
-  unfolding scalesWithSlacks
-  scales-at i h = chain-in nan n i variables slacks (length-copy n _) h ∙ copy-at n i h _
-
-  pub scales-slack : (j : ℕ) → j < r → at (scalesWithSlacks n r q a) (n + j) ≡ slackScale n (diagonalScales (n + r) q) (column n a j)
-  unfolding scalesWithSlacks slackScales
-  scales-slack j h = chain-past nan n j variables slacks (length-copy n _) ∙ getD-tab nan r j _ h
-
-  -- from an array of which the first n + r are the variables' scales
-  pub scales-known : {t : List Float} (d : List Float) → take (n + r) d ≡ diagonalScales (n + r) q →
-      t ≡ copy n d ++ slackScales n r d a → t ≡ scalesWithSlacks n r q a
-  unfolding scalesWithSlacks
-  scales-known d e f =
-      let k : Same n d (diagonalScales (n + r) q) = same-known (n + r) n d (diagonalScales (n + r) q) e (omega arith) in
-      f ∙ rw (copy-same n d (diagonalScales (n + r) q) k, slackScales-same n r d (diagonalScales (n + r) q) a k)
-
 -- ---- the segments
 abbrev none : Segments
 none = record { points = []; slopes = []; count = 0 }
@@ -208,9 +161,3 @@ module _ (n r : ℕ) (start a scales : List Float) where
   start-slack j h =
       mul-at (n + r) (n + j) (omega arith) _ scales
       ∙ rw (chain-past nan n j (copy n start) (trMulVec n r a start) (length-copy n start), trMulVec-at n r a start j h)
-
--- ---- a point that meets the rows meets each
-pub meetsRows-at : (n r : ℕ) (x a rowLower rowUpper : List Float) (j : ℕ) → j < r → meetsRows n r x a rowLower rowUpper ≡ true →
-    meetsRow n x (column n a j) (at rowLower j) (at rowUpper j) ≡ true
-unfolding meetsRows
-meetsRows-at n r x a rowLower rowUpper j h e = all-at r j _ e h

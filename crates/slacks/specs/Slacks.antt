@@ -1,17 +1,16 @@
--- qp.rs, `with_slacks`, `scales_with_slacks`, `slack_scale`, and the segments and the start of `solve_piecewise`: a slack for each row.
+-- qp.rs, `with_slacks`, and the segments and the start of `solve_piecewise`: a slack for each row.
 -- n originals, m equality columns, r rows; Q is n by n, E is n by m, a is n by r. `++` is Rust's `chain`.
 use Prim.Native.Nat.{ℕ, _+_, _-_, _≤_}
 use mathlib.Core.List.{List, [], _∷_, _++_}
 use lib.Dec.{ltb, eqb}
 use lib.ListN.{length, replicate}
-use lib.Ieee.{Float, eq}
-use Rattle.folds.specs.Fold.{fold, tab, tabM, over, pick}
+use lib.Ieee.{Float}
+use Rattle.folds.specs.Fold.{tab, tabM, over, pick}
 use Rattle.sizes.specs.Sizes as Sizes
-use Rattle.arith.specs.Float.{fmul, fdiv, fneg, f0, f1, infinity, at}
-use Rattle.arith.specs.Scalar.{abs, min}
+use Rattle.arith.specs.Float.{fmul, fdiv, fneg, f0, f1, at}
 use Rattle.vector.specs.Vector.{copy, filled, mul}
-use Rattle.matrix.specs.Matrix.{cell, column, trMulVec}
-use Rattle.units.specs.Units.{scaleOr1, diagonalScales}
+use Rattle.columns.specs.Columns.{cell}
+use Rattle.matrix.specs.Matrix.{trMulVec}
 use Rattle.segments.specs.declared.Segments.{Segments}
 use Rattle.segments.specs.Segments.{new}
 
@@ -33,26 +32,6 @@ withSlacksE n m r e a = tabM (n + r) (m + r) (entryE n m e a)
 -- `v.iter().copied().chain(std::iter::repeat_n(0.0, r))`
 unfoldable pub withZeros : (n r : ℕ) (v : List Float) → List Float
 withZeros n r v = copy n v ++ filled r f0
-
--- ---- `slack_scale`
--- `.filter(|(a, _)| *a != 0.0).map(|(a, s)| s / a.abs()).fold(f64::INFINITY, f64::min)`
-unfoldable pub smaller : (scale s a : Float) → Float
-smaller scale s a = pick (eq a f0) scale (min scale (fdiv s (abs a)))
-
-unfoldable pub smallest : (n : ℕ) (scales a : List Float) → Float
-smallest n scales a = fold n (λ i scale. smaller scale (at scales i) (at a i)) infinity
-
--- `if scale.is_finite() && scale > 0.0 { scale } else { 1.0 }`
-unfoldable pub slackScale : (n : ℕ) (scales a : List Float) → Float
-slackScale n scales a = scaleOr1 (smallest n scales a)
-
--- ---- `scales_with_slacks`
--- `scales[n + j] = slack_scale(&scales.as_slice()[..n], column.iter().copied())`
-unfoldable pub slackScales : (n r : ℕ) (scales a : List Float) → List Float
-slackScales n r scales a = tab r (λ j. slackScale n scales (column n a j))
-
-unfoldable pub scalesWithSlacks : (n r : ℕ) (q a : List Float) → List Float
-scalesWithSlacks n r q a = copy n (diagonalScales (n + r) q) ++ slackScales n r (diagonalScales (n + r) q) a
 
 -- ---- the segments of `solve_piecewise`
 -- `Segments::new(bounds.lower[i] * scale, bounds.upper[i] * scale, kinks.at[i] * scale, kinks.slopes[i] / scale)`

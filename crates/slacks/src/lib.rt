@@ -1,4 +1,4 @@
-// qp.rs: what `solve_piecewise` does before and after the solve in units: `with_slacks`, `scales_with_slacks`, the segments, the start, `meets_rows`.
+// qp.rs: what `solve_piecewise` does before the solve in units: `with_slacks`, the segments, the start.
 // n originals, m equality columns and r rows; Q is n by n, E is n by m, the rows' a is n by r.
 use segments::Segments;
 ghost use mathlib.Core.Path.{_≡_};
@@ -6,10 +6,9 @@ ghost use Prim.Native.Nat.{_+_, _≤_, _<_, _*_};
 ghost use lib.ListN.{length, take};
 ghost use Rattle.folds.specs.Fold.{over};
 ghost use Rattle.sizes.specs.Sizes as Sizes;
-ghost use Rattle.matrix.specs.Matrix as Matrix;
+ghost use Rattle.columns.specs.Columns as Columns;
 ghost use Rattle.segments.specs.Segments.{Cut, AllCut};
 ghost use Rattle.slacks.specs.Slacks as Slacks;
-ghost use Rattle.slacks.specs.Limits as Limits;
 
 // Q's entry at row i, column j; 0 for a slack.
 fn q_entry(q: &[f64], n: usize, i: usize, j: usize) -> f64
@@ -18,7 +17,7 @@ fn q_entry(q: &[f64], n: usize, i: usize, j: usize) -> f64
 {
     if i < n {
         if j < n {
-            return matrix::get(q, n, n, i, j);
+            return columns::get(q, n, n, i, j);
         }
     }
     0.0
@@ -27,11 +26,11 @@ fn q_entry(q: &[f64], n: usize, i: usize, j: usize) -> f64
 fn q_column(q: &[f64], n: usize, variables: usize, j: usize, all: &mut [f64])
     requires { ⌜ (n * n ≤ length (now q)) × (variables * variables ≤ length (now all)) × (j < variables) ⌝ }
     ensures { λ _. ⌜ now (all .exit)
-        ≡ Matrix.putColumn variables variables j (λ i. Slacks.entryQ n (now (q .entry)) i j) (now (all .entry)) ⌝ }
+        ≡ Columns.putColumn variables variables j (λ i. Slacks.entryQ n (now (q .entry)) i j) (now (all .entry)) ⌝ }
 {
     for i in 0..variables {
         let v = q_entry(q, n, i, j);
-        matrix::put(all, variables, variables, i, j, v);
+        columns::put(all, variables, variables, i, j, v);
     }
 }
 
@@ -62,9 +61,9 @@ fn e_entry(e: &[f64], a: &[f64], n: usize, m: usize, r: usize, i: usize, j: usiz
 {
     if i < n {
         if j < m {
-            return matrix::get(e, n, m, i, j);
+            return columns::get(e, n, m, i, j);
         }
-        return matrix::get(a, n, r, i, j - m);
+        return columns::get(a, n, r, i, j - m);
     }
     if i - n + m == j {
         return -1.0;
@@ -81,13 +80,13 @@ fn e_column(e: &[f64], a: &[f64], n: usize, m: usize, r: usize, j: usize, all: &
         × ((n + r) * (m + r) ≤ length (now all))
         × (j < m + r) ⌝ }
     ensures { λ _. ⌜ now (all .exit)
-        ≡ Matrix.putColumn (n + r) (n + r) j (λ i. Slacks.entryE n m (now (e .entry)) (now (a .entry)) i j) (now (all .entry)) ⌝ }
+        ≡ Columns.putColumn (n + r) (n + r) j (λ i. Slacks.entryE n m (now (e .entry)) (now (a .entry)) i j) (now (all .entry)) ⌝ }
 {
     let variables = n + r;
     let columns = m + r;
     for i in 0..variables {
         let v = e_entry(e, a, n, m, r, i, j);
-        matrix::put(all, variables, columns, i, j, v);
+        columns::put(all, variables, columns, i, j, v);
     }
 }
 
@@ -106,52 +105,6 @@ pub fn with_slacks_e(e: &[f64], a: &[f64], n: usize, m: usize, r: usize, all: &m
     for j in 0..columns {
         e_column(e, a, n, m, r, j, all);
     }
-}
-
-// The smaller of the scales, passing over an entry of 0.
-fn smaller(scale: f64, s: f64, a: f64) -> f64
-    ensures { λ r. ⌜ r ≡ Slacks.smaller scale s a ⌝ }
-{
-    if a == 0.0 {
-        return scale;
-    }
-    arith::min(scale, s / arith::abs(a))
-}
-
-// The scale of the slack of a row, of which a are the entries.
-pub fn slack_scale(scales: &[f64], a: &[f64], n: usize) -> f64
-    requires { ⌜ (n ≤ length (now scales)) × (n ≤ length (now a)) ⌝ }
-    ensures { λ r. ⌜ r ≡ Slacks.slackScale n (now (scales .entry)) (now (a .entry)) ⌝ }
-{
-    let mut scale = arith::infinity();
-    for i in 0..n {
-        scale = smaller(scale, scales[i], a[i]);
-    }
-    units::scale_or_1(scale)
-}
-
-fn slack_scales(scales: &[f64], a: &[f64], n: usize, r: usize, y: &mut [f64])
-    requires { ⌜ (n ≤ length (now scales)) × (n * r ≤ length (now a)) × (r ≤ length (now y)) ⌝ }
-    ensures { λ _. ⌜ now (y .exit) ≡ over (Slacks.slackScales n r (now (scales .entry)) (now (a .entry))) (now (y .entry)) ⌝ }
-{
-    for j in 0..r {
-        y[j] = slack_scale(scales, matrix::column(a, n, r, j), n);
-    }
-}
-
-// The scales of the variables, then of the slacks; q is Q with the slacks' zeros.
-pub fn scales_with_slacks(q: &[f64], a: &[f64], n: usize, r: usize) -> [f64; sizes::VARIABLES]
-    requires { ⌜ (n ≤ Sizes.originals)
-        × (r ≤ Sizes.rows)
-        × ((n + r) * (n + r) ≤ length (now q))
-        × (n * r ≤ length (now a)) ⌝ }
-    ensures { λ x. ⌜ take (n + r) x ≡ Slacks.scalesWithSlacks n r (now (q .entry)) (now (a .entry)) ⌝ }
-{
-    let diagonal = units::diagonal_scales(q, n + r);
-    let mut scales = [0.0; sizes::VARIABLES];
-    vector::copy(&diagonal, n, &mut scales);
-    slack_scales(&diagonal, a, n, r, &mut scales[n..]);
-    scales
 }
 
 // Variable i's range and kink, in units.
@@ -290,58 +243,4 @@ pub fn slacks_start(
     let mut u = [0.0; sizes::VARIABLES];
     vector::mul(&all, scales, n + r, &mut u);
     u
-}
-
-fn row_terms(a: &[f64], x: &[f64], n: usize) -> f64
-    requires { ⌜ (n ≤ length (now a)) × (n ≤ length (now x)) ⌝ }
-    ensures { λ r. ⌜ r ≡ Limits.rowTerms n (now (a .entry)) (now (x .entry)) ⌝ }
-{
-    let mut s = 0.0;
-    for i in 0..n {
-        s = s + arith::abs(a[i] * x[i]);
-    }
-    s
-}
-
-// Whether a row's sum is within its limits, to within 1e-8 of the size of its terms and the limit.
-fn within(sum: f64, terms: f64, lower: f64, upper: f64) -> bool
-    ensures { λ r. ⌜ r ≡ Limits.within sum terms lower upper ⌝ }
-{
-    if lower - 1e-8 * (terms + arith::abs(lower)) <= sum {
-        return sum <= upper + 1e-8 * (terms + arith::abs(upper));
-    }
-    false
-}
-
-fn meets_row(x: &[f64], a: &[f64], lower: f64, upper: f64, n: usize) -> bool
-    requires { ⌜ (n ≤ length (now x)) × (n ≤ length (now a)) ⌝ }
-    ensures { λ r. ⌜ r ≡ Limits.meetsRow n (now (x .entry)) (now (a .entry)) lower upper ⌝ }
-{
-    let sum = vector::dot(a, x, n);
-    let terms = row_terms(a, x, n);
-    within(sum, terms, lower, upper)
-}
-
-// Whether each row's sum is within its limits.
-pub fn meets_rows(
-    x: &[f64],
-    a: &[f64],
-    row_lower: &[f64],
-    row_upper: &[f64],
-    n: usize,
-    r: usize,
-) -> bool
-    requires { ⌜ (n ≤ length (now x))
-        × (n * r ≤ length (now a))
-        × (r ≤ length (now «row_lower»))
-        × (r ≤ length (now «row_upper»)) ⌝ }
-    ensures { λ met. ⌜ met
-        ≡ Limits.meetsRows n r (now (x .entry)) (now (a .entry)) (now («row_lower» .entry)) (now («row_upper» .entry)) ⌝ }
-{
-    for j in 0..r {
-        if meets_row(x, matrix::column(a, n, r, j), row_lower[j], row_upper[j], n) {} else {
-            return false;
-        }
-    }
-    true
 }

@@ -5,7 +5,7 @@ use lib.Ieee.{Float}
 use lib.ListN.{take}
 use Rattle.folds.specs.Fold.{tab, pick}
 use Rattle.arith.specs.Float.{fmul, fdiv, at}
-use Rattle.vector.specs.Vector.{allFinite}
+use Rattle.reductions.specs.Reductions.{allFinite}
 use Rattle.scaled.specs.System.{System, system}
 use Rattle.scaled.specs.Scaled.{kktResidual, withinRounding}
 use Rattle.scaled.specs.declared.Rounding.{Rounding}

@@ -54,7 +54,7 @@ pub fn judged(
         Rounding::Overflowed => refused(KktVerdict::SingularCovariance),
         Rounding::Outside => refused(KktVerdict::NoOptimum),
         Rounding::Within => {
-            if vector::all_finite(&x[..n], n) {
+            if reductions::all_finite(&x[..n], n) {
                 return Solution {
                     verdict: KktVerdict::Solved,
                     x: x,

@@ -1,82 +1,9 @@
-// The Cholesky factor and triangular systems, in document 01's order of sums. An n by n matrix is read in its lower triangle only.
+// Triangular systems, in document 01's order of sums. An n by n matrix is read in its lower triangle only.
 ghost use mathlib.Core.Path.{_≡_};
 ghost use Prim.Native.Nat.{_≤_, _<_, _*_};
 ghost use lib.ListN.{length};
 ghost use Rattle.folds.specs.Fold.{out};
 ghost use Rattle.triangular.specs.Triangular as Triangular;
-
-// The pivot below which a factor counts as singular.
-pub const PIVOT_FLOOR: f64 = 1.0 / 67_108_864.0;
-
-// The sum of the first j terms of row i times row j.
-fn rows_dot(a: &[f64], n: usize, i: usize, j: usize) -> f64
-    requires { ⌜ (n * n ≤ length (now a)) × (i < n) × (j < n) ⌝ }
-    ensures { λ r. ⌜ r ≡ Triangular.rowsDot j (now (a .entry)) n i j ⌝ }
-{
-    let mut s = 0.0;
-    for t in 0..j {
-        s = s + matrix::get(a, n, n, i, t) * matrix::get(a, n, n, j, t);
-    }
-    s
-}
-
-fn under_root(a: &[f64], n: usize, j: usize) -> f64
-    requires { ⌜ (n * n ≤ length (now a)) × (j < n) ⌝ }
-    ensures { λ r. ⌜ r ≡ Triangular.underRoot n j (now (a .entry)) ⌝ }
-{
-    matrix::get(a, n, n, j, j) - rows_dot(a, n, j, j)
-}
-
-fn factor_below(a: &mut [f64], n: usize, j: usize, r: f64)
-    requires { ⌜ (n * n ≤ length (now a)) × (j < n) ⌝ }
-    ensures { λ _. ⌜ now (a .exit) ≡ Triangular.factorBelow n j r (now (a .entry)) ⌝ }
-{
-    matrix::put(a, n, n, j, j, r);
-    for i in j + 1..n {
-        let k = rows_dot(&a[..], n, i, j);
-        let v = matrix::get(&a[..], n, n, i, j);
-        matrix::put(a, n, n, i, j, (v - k) / r);
-    }
-}
-
-fn factor_column(a: &mut [f64], n: usize, j: usize) -> bool
-    requires { ⌜ (n * n ≤ length (now a)) × (j < n) ⌝ }
-    ensures { λ r. ⌜ out r (now (a .exit)) ≡ Triangular.factorColumn n j (now (a .entry)) ⌝ }
-{
-    let d = under_root(&a[..], n, j);
-    if d > 0.0 {
-        let r = root::sqrt(d);
-        factor_below(a, n, j, r);
-        return true;
-    }
-    false
-}
-
-// Cholesky::new: whether a has a factor, which takes its place.
-pub fn cholesky(a: &mut [f64], n: usize) -> bool
-    requires { ⌜ n * n ≤ length (now a) ⌝ }
-    ensures { λ r. ⌜ out r (now (a .exit)) ≡ Triangular.cholesky n (now (a .entry)) ⌝ }
-{
-    for j in 0..n {
-        if !factor_column(a, n, j) {
-            return false;
-        }
-    }
-    true
-}
-
-pub fn positive_definite(l: &[f64], n: usize) -> bool
-    requires { ⌜ n * n ≤ length (now l) ⌝ }
-    ensures { λ r. ⌜ r ≡ Triangular.positiveDefinite (now (l .entry)) n ⌝ }
-{
-    for i in 0..n {
-        let p = matrix::get(l, n, n, i, i);
-        if !(p * p >= PIVOT_FLOOR) {
-            return false;
-        }
-    }
-    true
-}
 
 // Whether no diagonal entry is 0.
 fn regular(l: &[f64], n: usize) -> bool
@@ -84,7 +11,7 @@ fn regular(l: &[f64], n: usize) -> bool
     ensures { λ r. ⌜ r ≡ Triangular.regular (now (l .entry)) n ⌝ }
 {
     for i in 0..n {
-        if matrix::get(l, n, n, i, i) == 0.0 {
+        if columns::get(l, n, n, i, i) == 0.0 {
             return false;
         }
     }
@@ -98,7 +25,7 @@ pub fn known(l: &[f64], n: usize, i: usize, k: usize, x: &[f64]) -> f64
 {
     let mut s = 0.0;
     for j in 0..k {
-        s = s + matrix::get(l, n, n, i, j) * x[j];
+        s = s + columns::get(l, n, n, i, j) * x[j];
     }
     s
 }
@@ -110,7 +37,7 @@ pub fn forward(l: &[f64], n: usize, k: usize, x: &mut [f64])
 {
     for i in 0..k {
         let s = known(l, n, i, i, &x[..]);
-        x[i] = (x[i] - s) / matrix::get(l, n, n, i, i);
+        x[i] = (x[i] - s) / columns::get(l, n, n, i, i);
     }
 }
 
@@ -154,7 +81,7 @@ fn known_below(l: &[f64], n: usize, i: usize, x: &[f64]) -> f64
 {
     let mut s = 0.0;
     for j in i + 1..n {
-        s = s + matrix::get(l, n, n, j, i) * x[j];
+        s = s + columns::get(l, n, n, j, i) * x[j];
     }
     s
 }
@@ -164,7 +91,7 @@ fn unknown_back(l: &[f64], n: usize, i: usize, x: &mut [f64])
     ensures { λ _. ⌜ now (x .exit) ≡ Triangular.unknownBack (now (l .entry)) n i (now (x .entry)) ⌝ }
 {
     let s = known_below(l, n, i, &x[..]);
-    x[i] = (x[i] - s) / matrix::get(l, n, n, i, i);
+    x[i] = (x[i] - s) / columns::get(l, n, n, i, i);
 }
 
 fn backward(l: &[f64], n: usize, x: &mut [f64])

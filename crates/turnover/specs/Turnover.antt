@@ -6,7 +6,8 @@ use lib.Ieee.{Float, binary64, ofBits, lt, le}
 use Rattle.folds.specs.Fold.{pick}
 use Rattle.arith.specs.Float.{fadd, fsub, fmul, f0, f1, epsilon, fromℕ}
 use Rattle.arith.specs.Scalar.{max}
-use Rattle.vector.specs.Vector.{sub, amax, totalAbs}
+use Rattle.reductions.specs.Reductions.{amax, totalAbs}
+use Rattle.vector.specs.Vector.{sub}
 use Rattle.matrix.specs.Matrix.{mulVec}
 
 abbrev f4 : Float

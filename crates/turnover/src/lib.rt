@@ -21,7 +21,7 @@ pub fn kink_multiplier(q: &[f64], c: &[f64], at: &[f64], n: usize) -> f64
 {
     let gradient = dense::mul_vec(q, n, n, at);
     let pull = dense::sub(&gradient[..n], c, n);
-    first_raise(vector::amax(&pull[..n], n))
+    first_raise(reductions::amax(&pull[..n], n))
 }
 
 // How far a sum of so many terms, none larger than `size`, can round.
@@ -36,14 +36,14 @@ pub fn turnover(x: &[f64], at: &[f64], n: usize) -> f64
     ensures { λ r. ⌜ r ≡ Turnover.turnover n (now (x .entry)) (now (at .entry)) ⌝ }
 {
     let moves = dense::sub(x, at, n);
-    vector::total_abs(&moves[..n], n)
+    reductions::total_abs(&moves[..n], n)
 }
 
 fn slack(x: &[f64], n: usize) -> f64
     requires { ⌜ n ≤ length (now x) ⌝ }
     ensures { λ r. ⌜ r ≡ Turnover.slack n (now (x .entry)) ⌝ }
 {
-    sum_rounding(n, arith::max(vector::amax(x, n), 1.0))
+    sum_rounding(n, arith::max(reductions::amax(x, n), 1.0))
 }
 
 // Whether a value at x is within the limit, and whether it reaches it.

@@ -6,8 +6,10 @@ use lib.Ieee.{Float, binary64, isNan, lt, eq, ofBits}
 use Rattle.folds.specs.Fold.{tab, all, pick}
 use Rattle.arith.specs.Float.{fadd, fsub, fmul, fdiv, sqrt, f0, f1, at, sum}
 use Rattle.arith.specs.Scalar.{abs, max, isFinite}
-use Rattle.vector.specs.Vector.{amax, div}
-use Rattle.matrix.specs.Matrix.{cell, column, columnsAmax, rowsDivided, columnsDivided}
+use Rattle.reductions.specs.Reductions.{amax}
+use Rattle.vector.specs.Vector.{div}
+use Rattle.columns.specs.Columns.{cell, column, columnsAmax}
+use Rattle.matrix.specs.Matrix.{rowsDivided, columnsDivided}
 
 -- ---- `checked`: whether x satisfies Eᵀx = b in the original units, each constraint to within 1e-8 of the size of its terms
 -- `(column / scale).component_mul(&x)`

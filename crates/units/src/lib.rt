@@ -69,7 +69,7 @@ fn column_met(terms: &[f64], n: usize, target: f64) -> bool
     requires { ⌜ n ≤ length (now terms) ⌝ }
     ensures { λ r. ⌜ r ≡ Units.columnMet n (now (terms .entry)) target ⌝ }
 {
-    let largest = arith::max(vector::amax(terms, n), arith::abs(target));
+    let largest = arith::max(reductions::amax(terms, n), arith::abs(target));
     if arith::is_finite(largest) {
         if largest == 0.0 {
             return true;
@@ -93,7 +93,7 @@ pub fn checked(x: &[f64], e: &[f64], b: &[f64], columns: &[f64], n: usize, m: us
     ensures { λ r. ⌜ r ≡ Units.checked n m (now (x .entry)) (now (e .entry)) (now (b .entry)) (now (columns .entry)) ⌝ }
 {
     for j in 0..m {
-        if met(x, matrix::column(e, n, m, j), n, b[j], columns[j]) {} else {
+        if met(x, columns::column(e, n, m, j), n, b[j], columns[j]) {} else {
             return false;
         }
     }
@@ -126,7 +126,7 @@ pub fn column_scales(e: &[f64], n: usize, m: usize) -> [f64; sizes::COLUMNS]
     ensures { λ r. ⌜ take m r ≡ Units.columnScales n m (now (e .entry)) ⌝ }
 {
     let mut y = [0.0; sizes::COLUMNS];
-    matrix::columns_amax(e, n, m, &mut y);
+    columns::columns_amax(e, n, m, &mut y);
     scales_or_1(&mut y, m);
     y
 }
@@ -154,7 +154,7 @@ fn diagonal_scale(k: &[f64], n: usize, i: usize) -> f64
     requires { ⌜ (n * n ≤ length (now k)) × (i < n) ⌝ }
     ensures { λ r. ⌜ r ≡ Units.diagonalScale n (now (k .entry)) i ⌝ }
 {
-    scale_or_1(root::sqrt(matrix::get(k, n, n, i, i)))
+    scale_or_1(root::sqrt(columns::get(k, n, n, i, i)))
 }
 
 fn write_diagonal_scales(k: &[f64], n: usize, y: &mut [f64])

@@ -3,19 +3,14 @@ use mathlib.Core.Path.{_≡_, refl}
 use mathlib.Core.List.{[], _∷_}
 use lib.Ieee.{neg, add, sub, mul, div, ofInt, ofBits}
 use Rattle.folds.specs.Fold.{fold, span, pick, tab, tabM, over}
-use Rattle.folds.specs.Part.{two}
 use Rattle.root.specs.Root.{root}
 use Rattle.arith.specs.Float.{f1, fromℕ}
-use Rattle.vector.specs.Vector.{sumSquares, copy}
+use Rattle.reductions.specs.Reductions.{sumSquares}
+use Rattle.vector.specs.Vector.{copy}
 use Rattle.triangular.specs.Triangular.{forward, unknown, known}
-use Rattle.update.specs.Update.{rankRow, rankRows, newDiagonal, rankColumn, rankOne, staying, closedEntry, closed, removedEntry, removed, leave}
-use Rattle.update.specs.Update.{removeColumn, joinDiagonal, joinBelow, joining, standing, joinedEntry, joined, join, insertColumn}
-
--- column 0: r = 5, c = 5/4, t = 3/4, then L = (4 + 6) / c = 8 and v = 10 - 6; column 1: r = 5
-of-rank-one : rankOne 2 0 f1 (two (fromℕ 4 ∷ fromℕ 4 ∷ fromℕ 9 ∷ fromℕ 3 ∷ []) (fromℕ 3 ∷ fromℕ 8 ∷ []))
-    ≡ two (fromℕ 5 ∷ fromℕ 8 ∷ fromℕ 9 ∷ fromℕ 5 ∷ []) (fromℕ 3 ∷ fromℕ 4 ∷ [])
-unfolding rankOne rankColumn rankRows rankRow newDiagonal span fold add sub mul div root ofInt ofBits
-of-rank-one = refl
+use Rattle.rank_one.specs.RankOne.{rankRow, rankRows, newDiagonal, rankColumn, rankOne}
+use Rattle.update.specs.Update.{staying, closedEntry, closed, removedEntry, removed, leave, removeColumn}
+use Rattle.update.specs.Update.{joinDiagonal, joinBelow, joining, standing, joinedEntry, joined, join, insertColumn}
 
 -- without its first variable (1 0; 4 3) is root(9 + 16); the other entries keep their values
 of-remove : removeColumn 2 0 (f1 ∷ fromℕ 4 ∷ fromℕ 9 ∷ fromℕ 3 ∷ []) ≡ fromℕ 5 ∷ fromℕ 4 ∷ fromℕ 9 ∷ fromℕ 3 ∷ []

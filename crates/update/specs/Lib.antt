@@ -1,5 +1,4 @@
 pub mod Update
-pub mod Laws
 pub mod Lower
 pub mod Leaving
 pub mod Same

@@ -7,9 +7,8 @@ use Prim.Native.Nat.{ℕ, _+_, _-_, _*_, _<_, _≤_}
 use native.Mathlib.Nat.{eq-or-lt-of-le}
 use native.Mathlib.Omega.{arith}
 use lib.Dec.{ltb, eqb}
-use lib.ListN.{length, set, length-set}
-use lib.Seq.{getD-set-same, getD-set-other}
-use lib.Ieee.{Float, nan}
+use lib.ListN.{length, length-set}
+use lib.Ieee.{Float}
 use borrow.Author.Tests.{ltb-false, eqb-false, lt-ltb, le-ltb}
 use Rattle.folds.specs.Fold.{span-keep, span-same, tabM, over, pick, pick-by, pick-true, pick-false}
 use Rattle.folds.specs.Tab.{length-tab, length-tabM, length-over, tab-same}
@@ -17,84 +16,52 @@ use Rattle.folds.specs.Cell.{area}
 use Rattle.folds.specs.Part.{two}
 use Rattle.folds.specs.Steps.{span-pair}
 use Rattle.folds.specs.Decide.{same-or-not, lt-or-le}
-use Rattle.arith.specs.Float.{fadd, fsub, fmul, fdiv, fneg, f1, at}
+use Rattle.arith.specs.Float.{fneg, f1, at}
 use Rattle.vector.specs.Vector.{copy}
 use Rattle.vector.specs.Laws.{Same, copy-same, length-copy}
-use Rattle.matrix.specs.Matrix.{cell, put}
-use Rattle.matrix.specs.Laws.{cell-over, cell-tabM, put-same, put-row, put-column}
+use Rattle.columns.specs.Columns.{cell}
+use Rattle.columns.specs.Laws.{cell-over, cell-tabM}
 use Rattle.triangular.specs.Triangular.{forward}
 use Rattle.triangular.specs.Laws.{Lower, length-forward, known-lower, forward-lower}
-use Rattle.update.specs.Update.{rankRow, rankRows, newDiagonal, rankColumn, rankOne, factorOf, staying, closedEntry, closed, removedEntry}
-use Rattle.update.specs.Update.{removed, leave, removeColumn, joinDiagonal, joinBelow, joining, standing, joinedEntry, joined, join}
-use Rattle.update.specs.Update.{insertColumn}
-use Rattle.update.specs.Laws.{Pair, vectorOf, Wide}
+use Rattle.rank_one.specs.RankOne.{newDiagonal, rankColumn, rankOne, factorOf}
+use Rattle.rank_one.specs.Laws.{Pair, vectorOf, Wide, diagonal-is, rankColumn-at, rankOne-found}
+use Rattle.update.specs.Update.{staying, closedEntry, closed, removedEntry, removed, leave, removeColumn}
+use Rattle.update.specs.Update.{joinDiagonal, joinBelow, joining, standing, joinedEntry, joined, join, insertColumn}
 
 -- ---- the rank-one step
-put-lower : (n i j : ℕ) (a b : List Float) (u w : Float) → i < n → j < n → n * n ≤ length a → n * n ≤ length b → u ≡ w → Lower n a b →
-    Lower n (put a n i j u) (put b n i j w)
-put-lower n i j a b u w p q g h e l k t m o =
-    ⊎-elim
-    (λ (y : k ≡ i).
-    ⊎-elim (λ (z : t ≡ j). rw (y, z) (put-same n i j u a n g p q ∙ e ∙ sym (put-same n i j w b n h p q)))
-    (λ (d : t ≡ j → ⊥). put-column n i j u a k t p o d ∙ l k t m o ∙ sym (put-column n i j w b k t p o d))
-    (same-or-not t j))
-    (λ (d : k ≡ i → ⊥). put-row n i j u a k t p o d ∙ l k t m o ∙ sym (put-row n i j w b k t p o d))
-    (same-or-not k i)
-
-set-same : (n i : ℕ) (a b : List Float) (u w : Float) → i < n → n ≤ length a → n ≤ length b → u ≡ w → Same n a b → Same n (set a i u) (set b i w)
-set-same n i a b u w p g h e l k o =
-    ⊎-elim
-    (λ (y : k ≡ i). rw y (getD-set-same a i u nan (omega arith) ∙ e ∙ sym (getD-set-same b i w nan (omega arith))))
-    (λ (d : k ≡ i → ⊥). getD-set-other a i k u nan d ∙ l k o ∙ sym (getD-set-other b i k w nan d))
-    (same-or-not k i)
-
 record Alike (n : ℕ) (x y : Pair) : Type 0 where
   lower : Lower n (factorOf x) (factorOf y)
   vector : Same n (vectorOf x) (vectorOf y)
   wide : Wide n x
   wide' : Wide n y
 
-row-alike : (n j : ℕ) (s t c : Float) (i : ℕ) (x y : Pair) → j < i → i < n → Alike n x y → Alike n (rankRow n j s t c i x) (rankRow n j s t c i y)
-unfolding rankRow
-row-alike n j s t c i (two l v) (two m w) p q a =
-    let e : cell l n i j ≡ cell m n i j = a .lower i j (omega arith) q in
-    let f : at v i ≡ at w i = a .vector i q in
-    let u : Float = fdiv (fadd (cell l n i j) (fmul (fmul s t) (at v i))) c in
-    let z : Float = fdiv (fadd (cell m n i j) (fmul (fmul s t) (at w i))) c in
-    let g : u ≡ z = rw (e, f) in
-    let d : fsub (fmul c (at v i)) (fmul t u) ≡ fsub (fmul c (at w i)) (fmul t z) = rw (e, f) in
+column-alike : (n : ℕ) (s : Float) (j : ℕ) (x y : Pair) → j < n → Alike n x y → Alike n (rankColumn n s j x) (rankColumn n s j y)
+column-alike n s j x y q a =
+    let c = rankColumn-at n s j x q (a .wide) in
+    let d = rankColumn-at n s j y q (a .wide') in
+    let e : cell (factorOf x) n j j ≡ cell (factorOf y) n j j = a .lower j j (omega arith) q in
+    let f : at (vectorOf x) j ≡ at (vectorOf y) j = a .vector j q in
+    let r : newDiagonal n j s (factorOf x) (vectorOf x) ≡ newDiagonal n j s (factorOf y) (vectorOf y) =
+    rw (diagonal-is n j s (factorOf x) (vectorOf x), diagonal-is n j s (factorOf y) (vectorOf y), e, f) in
+    let below : (i : ℕ) → j < i → i < n → cell (factorOf (rankColumn n s j x)) n i j ≡ cell (factorOf (rankColumn n s j y)) n i j =
+    λ i g h. rw (c .below i g h, d .below i g h, e, f, r, a .lower i j (omega arith) h, a .vector i h) in
     record {
-      lower = put-lower n i j l m u z q (omega arith) (a .wide .0) (a .wide' .0) g (a .lower);
-      vector = set-same n i v w _ _ q (a .wide .1) (a .wide' .1) d (a .vector);
-      wide = (rw (length-set l (i + j * n) u) (a .wide .0), rw (length-set v i (fsub (fmul c (at v i)) (fmul t u))) (a .wide .1));
-      wide' = (rw (length-set m (i + j * n) z) (a .wide' .0), rw (length-set w i (fsub (fmul c (at w i)) (fmul t z))) (a .wide' .1));
+      lower = λ i k g h. ⊎-elim
+          (λ (z : k ≡ j). rw z
+          (⊎-elim (λ (o : j ≡ i). rw (← o) (c .diagonal ∙ r ∙ sym (d .diagonal))) (λ (o : j < i). below i o h) (eq-or-lt-of-le (rw z at g))))
+          (λ (o : k ≡ j → ⊥). c .others i k h o ∙ a .lower i k g h ∙ sym (d .others i k h o))
+          (same-or-not k j);
+      vector = λ i h. ⊎-elim (λ (o : j < i). rw (c .vector i o h, d .vector i o h, e, f, r, below i o h, a .vector i h))
+          (λ (o : i ≤ j). c .before i o ∙ a .vector i h ∙ sym (d .before i o))
+          (lt-or-le j i);
+      wide = c .wide;
+      wide' = d .wide;
     }
 
-rows-alike : (n j : ℕ) (s t c : Float) (x y : Pair) → Alike n x y → Alike n (rankRows n j s t c x) (rankRows n j s t c y)
-unfolding rankRows
-rows-alike n j s t c x y a =
-    span-pair (Alike n) (j + 1) n (rankRow n j s t c) (rankRow n j s t c) x y a (λ i x y p q b. row-alike n j s t c i x y (omega arith) q b)
-
-column-alike : (n : ℕ) (s : Float) (j : ℕ) (x y : Pair) → j < n → Alike n x y → Alike n (rankColumn n s j x) (rankColumn n s j y)
-unfolding rankColumn newDiagonal
-column-alike n s j (two l v) (two m w) q a =
-    let d : cell l n j j ≡ cell m n j j = a .lower j j (omega arith) q in
-    let f : at v j ≡ at w j = a .vector j q in
-    let r : newDiagonal n j s l v ≡ newDiagonal n j s m w = rw (d, f) in
-    let b : Alike n (two (put l n j j (newDiagonal n j s l v)) v) (two (put m n j j (newDiagonal n j s m w)) w) =
-    record {
-      lower = put-lower n j j l m _ _ q q (a .wide .0) (a .wide' .0) r (a .lower);
-      vector = a .vector;
-      wide = (rw (length-set l (j + j * n) (newDiagonal n j s l v)) (a .wide .0), a .wide .1);
-      wide' = (rw (length-set m (j + j * n) (newDiagonal n j s m w)) (a .wide' .0), a .wide' .1);
-    } in
-    let t : fdiv (at v j) (cell l n j j) ≡ fdiv (at w j) (cell m n j j) = rw (d, f) in
-    let c : fdiv (newDiagonal n j s l v) (cell l n j j) ≡ fdiv (newDiagonal n j s m w) (cell m n j j) = rw (d, f) in
-    rw (← t, ← c) (rows-alike n j s (fdiv (at v j) (cell l n j j)) (fdiv (newDiagonal n j s l v) (cell l n j j)) _ _ b)
-
 one-alike : (n p : ℕ) (s : Float) (x y : Pair) → Alike n x y → Lower n (factorOf (rankOne n p s x)) (factorOf (rankOne n p s y))
-unfolding rankOne
-one-alike n p s x y a = span-pair (Alike n) p n (rankColumn n s) (rankColumn n s) x y a (λ j x y l q b. column-alike n s j x y q b) .lower
+one-alike n p s x y a =
+    rw (rankOne-found n p s x, rankOne-found n p s y)
+    (span-pair (Alike n) p n (rankColumn n s) (rankColumn n s) x y a (λ j x y l q b. column-alike n s j x y q b) .lower)
 
 -- ---- leaving
 staying-low : (p i : ℕ) → i < p → staying p i ≡ i

@@ -13,8 +13,8 @@ use Rattle.folds.specs.Tab.{tabM-same, over-in}
 use Rattle.arith.specs.Float.{at}
 use Rattle.vector.specs.Vector.{copy}
 use Rattle.vector.specs.Laws.{Same, length-copy, copy-at}
-use Rattle.matrix.specs.Matrix.{cell}
-use Rattle.matrix.specs.Laws.{cell-same}
+use Rattle.columns.specs.Columns.{cell}
+use Rattle.columns.specs.Laws.{cell-same}
 use Rattle.triangular.specs.Laws.{Lower}
 use Rattle.update.specs.Update.{staying, closedEntry, closed, leave, removeColumn, standing, joinedEntry, joining, joined, join, insertColumn}
 use Rattle.update.specs.Leaving.{staying-below}

@@ -3,58 +3,9 @@ ghost use mathlib.Core.Path.{_≡_};
 ghost use Prim.Native.Nat.{_≤_, _<_, _*_, _+_};
 ghost use lib.ListN.{length};
 ghost use Rattle.folds.specs.Fold.{over, span};
-ghost use Rattle.folds.specs.Part.{two};
 ghost use Rattle.sizes.specs.Sizes.{originals};
-ghost use Rattle.matrix.specs.Matrix.{putColumn};
+ghost use Rattle.columns.specs.Columns.{putColumn};
 ghost use Rattle.update.specs.Update as Update;
-
-// Row i below the diagonal of column j.
-fn rank_row(l: &mut [f64], v: &mut [f64], n: usize, j: usize, s: f64, t: f64, c: f64, i: usize)
-    requires { ⌜ (n * n ≤ length (now l)) × (n ≤ length (now v)) × (i < n) × (j < n) ⌝ }
-    ensures { λ _. ⌜ two (now (l .exit)) (now (v .exit)) ≡ Update.rankRow n j s t c i (two (now (l .entry)) (now (v .entry))) ⌝ }
-{
-    let x = (matrix::get(&l[..], n, n, i, j) + s * t * v[i]) / c;
-    matrix::put(l, n, n, i, j, x);
-    v[i] = c * v[i] - t * x;
-}
-
-fn rank_rows(l: &mut [f64], v: &mut [f64], n: usize, j: usize, s: f64, t: f64, c: f64)
-    requires { ⌜ (n * n ≤ length (now l)) × (n ≤ length (now v)) × (j < n) ⌝ }
-    ensures { λ _. ⌜ two (now (l .exit)) (now (v .exit)) ≡ Update.rankRows n j s t c (two (now (l .entry)) (now (v .entry))) ⌝ }
-{
-    for i in j + 1..n {
-        rank_row(l, v, n, j, s, t, c, i);
-    }
-}
-
-fn new_diagonal(l: &[f64], v: &[f64], n: usize, j: usize, s: f64) -> f64
-    requires { ⌜ (n * n ≤ length (now l)) × (n ≤ length (now v)) × (j < n) ⌝ }
-    ensures { λ r. ⌜ r ≡ Update.newDiagonal n j s (now (l .entry)) (now (v .entry)) ⌝ }
-{
-    let d = matrix::get(l, n, n, j, j);
-    root::sqrt(d * d + s * v[j] * v[j])
-}
-
-fn rank_column(l: &mut [f64], v: &mut [f64], n: usize, j: usize, s: f64)
-    requires { ⌜ (n * n ≤ length (now l)) × (n ≤ length (now v)) × (j < n) ⌝ }
-    ensures { λ _. ⌜ two (now (l .exit)) (now (v .exit)) ≡ Update.rankColumn n s j (two (now (l .entry)) (now (v .entry))) ⌝ }
-{
-    let d = matrix::get(&l[..], n, n, j, j);
-    let r = new_diagonal(&l[..], &v[..], n, j, s);
-    let t = v[j] / d;
-    matrix::put(l, n, n, j, j, r);
-    rank_rows(l, v, n, j, s, t, r / d);
-}
-
-// The rank-one step on the rows from p on; v is used up.
-fn rank_one(l: &mut [f64], v: &mut [f64], n: usize, p: usize, s: f64)
-    requires { ⌜ (n * n ≤ length (now l)) × (n ≤ length (now v)) × (p ≤ n) ⌝ }
-    ensures { λ _. ⌜ two (now (l .exit)) (now (v .exit)) ≡ Update.rankOne n p s (two (now (l .entry)) (now (v .entry))) ⌝ }
-{
-    for j in p..n {
-        rank_column(l, v, n, j, s);
-    }
-}
 
 // Where the i-th of the n that stay stood.
 fn staying(p: usize, i: usize, n: usize) -> usize
@@ -75,8 +26,8 @@ fn close_column(old: &[f64], n: usize, p: usize, j: usize, l: &mut [f64])
     let b = staying(p, j, n);
     for i in 0..n {
         let a = staying(p, i, n);
-        let v = matrix::get(old, n + 1, n + 1, a, b);
-        matrix::put(l, n, n, i, j, v);
+        let v = columns::get(old, n + 1, n + 1, a, b);
+        columns::put(l, n, n, i, j, v);
     }
 }
 
@@ -96,7 +47,7 @@ fn removed_entry(l: &[f64], n: usize, p: usize, i: usize) -> f64
     if i < p {
         return 0.0;
     }
-    matrix::get(l, n + 1, n + 1, i + 1, p)
+    columns::get(l, n + 1, n + 1, i + 1, p)
 }
 
 fn removed(l: &[f64], n: usize, p: usize, v: &mut [f64])
@@ -115,7 +66,7 @@ fn leave(old: &[f64], n: usize, p: usize, l: &mut [f64], v: &mut [f64])
 {
     removed(old, n, p, v);
     close(old, n, p, l);
-    rank_one(l, v, n, p, 1.0);
+    rank_one::rank_one(l, v, n, p, 1.0);
 }
 
 // The factor of k variables without variable p, in place. The factor as it was goes to room.
@@ -133,7 +84,7 @@ fn join_diagonal(x: &mut [f64], p: usize)
     requires { ⌜ p < length (now x) ⌝ }
     ensures { λ _. ⌜ now (x .exit) ≡ Update.joinDiagonal p (now (x .entry)) ⌝ }
 {
-    let w = vector::sum_squares(&x[..], p);
+    let w = reductions::sum_squares(&x[..], p);
     x[p] = root::sqrt(x[p] - w);
 }
 
@@ -180,7 +131,7 @@ fn joined_entry(l: &[f64], n: usize, p: usize, x: &[f64], i: usize, j: usize) ->
     }
     let a = standing(p, i, n);
     let b = standing(p, j, n);
-    matrix::get(l, n, n, a, b)
+    columns::get(l, n, n, a, b)
 }
 
 fn joined_column(old: &[f64], n: usize, p: usize, x: &[f64], j: usize, l: &mut [f64])
@@ -190,7 +141,7 @@ fn joined_column(old: &[f64], n: usize, p: usize, x: &[f64], j: usize, l: &mut [
 {
     for i in 0..n + 1 {
         let v = joined_entry(old, n, p, x, i, j);
-        matrix::put(l, n + 1, n + 1, i, j, v);
+        columns::put(l, n + 1, n + 1, i, j, v);
     }
 }
 
@@ -212,7 +163,7 @@ fn join(old: &[f64], n: usize, p: usize, q: &[f64], l: &mut [f64], x: &mut [f64]
     vector::copy(q, n + 1, x);
     joining(old, n, p, x);
     joined(old, n, p, &x[..], l);
-    rank_one(l, x, n + 1, p + 1, -1.0);
+    rank_one::rank_one(l, x, n + 1, p + 1, -1.0);
 }
 
 // The factor of n variables with one more at place p, whose column of the matrix is q, in place. The factor as it was goes to room.

@@ -1,24 +1,22 @@
 -- Laws of the definitions: how long each list is, what stands at each place, and that only the first n elements count.
-use mathlib.Core.Path.{_≡_, refl, sym, subst, _∙_}
+use mathlib.Core.Path.{_≡_, sym, _∙_}
 use mathlib.Core.Bool.{true, false}
-use mathlib.Core.Logic.{⊎-elim}
 use mathlib.Core.List.{List}
-use Prim.Native.Nat.{ℕ, zero, suc, _<_, _≤_}
+use Prim.Native.Nat.{ℕ, _<_, _≤_}
 use native.Mathlib.Omega.{arith}
-use native.Mathlib.Nat.{eq-or-lt-of-le, le-of-suc-le-suc, not-suc-le-zero}
 use lib.ListN.{length, take, getD, replicate}
 use lib.Seq.{getD-take, ext-getD}
-use lib.Ieee.{Float, nan, binary64, ofBits, isNan, eq}
+use lib.Ieee.{Float, nan, binary64, eq}
 use lib.Ieee.Fits.{div-fits}
-use lib.Ieee.Positive.{num, den, den-pos, through}
-use Rattle.folds.specs.Fold.{fold, over, all-at, all-yes, some-no}
+use Rattle.folds.specs.Fold.{over}
 use Rattle.folds.specs.Tab.{length-tab, getD-tab, tab-same, tab-all, over-all, over-in, take-replicate, taken-over}
 use Rattle.arith.specs.Float.{fadd, fsub, fmul, fdiv, f0, at}
-use Rattle.arith.specs.Scalar.{abs, max, isFinite}
-use Rattle.arith.specs.Laws.{max-number}
+use Rattle.arith.specs.Scalar.{isFinite}
 use Rattle.arith.specs.Neutral.{Held, zero-is, plus, plus-held, plus-add, add-zero}
-use Rattle.arith.specs.Quotients.{Size, Under, larger, quotient}
-use Rattle.vector.specs.Vector.{amax, anyNan, allFinite, scaled, divided, add, sub, mul, div, addScaled, subScaled, addScalar, copy, filled}
+use Rattle.arith.specs.Quotients.{quotient}
+use Rattle.reductions.specs.Reductions.{amax, allFinite}
+use Rattle.reductions.specs.Laws.{finite-at, finite-all, amax-largest}
+use Rattle.vector.specs.Vector.{scaled, divided, add, sub, mul, div, addScaled, subScaled, addScalar, copy, filled}
 use Rattle.vector.specs.Vector.{select}
 
 -- ---- lengths
@@ -176,40 +174,7 @@ module _ (n : ℕ) (a b c d : List Float) (e : Same n a c) (f : Same n b d) wher
   unfolding div
   div-same = tab-same n _ _ (λ k l. rw (e k l, f k l))
 
--- ---- finite elements
-pub finite-at : (n k : ℕ) (a : List Float) → allFinite n a ≡ true → k < n → isFinite (at a k) ≡ true
-unfolding allFinite
-finite-at n k a e h = all-at n k (λ j. isFinite (at a j)) e h
-
-pub finite-all : (n : ℕ) (a : List Float) → ((k : ℕ) → k < n → isFinite (at a k) ≡ true) → allFinite n a ≡ true
-unfolding allFinite
-finite-all n a h = all-yes n (λ j. isFinite (at a j)) h
-
-pub numbers-all : (n : ℕ) (a : List Float) → ((k : ℕ) → k < n → isNan (at a k) ≡ false) → anyNan n a ≡ false
-unfolding anyNan
-numbers-all n a h = some-no n (λ j. isNan (at a j)) h
-
--- ---- the largest is a number, and no element is larger
-pub amax-number : (n : ℕ) (a : List Float) → isNan (amax n a) ≡ false
-unfolding amax fold isNan ofBits
-amax-number zero a = refl
-amax-number (suc n) a = max-number (amax n a) (abs (at a n)) (amax-number n a)
-
-pub amax-largest : (n : ℕ) (a : List Float) → ((k : ℕ) → k < n → isFinite (at a k) ≡ true) →
-    Size (amax n a) × ((k : ℕ) → k < n → Under (at a k) (amax n a))
-unfolding amax fold
-amax-largest zero a h = (subst Size (sym zero-is) refl, λ k l. absurd (not-suc-le-zero l))
-amax-largest (suc n) a h =
-    let m = amax n a in
-    let u = amax-largest n a (λ k l. h k (omega arith)) in
-    let s = larger m (at a n) (u .0) (h n (omega arith)) in
-    let x : Float = max m (abs (at a n)) in (
-      s .0,
-      λ k l. ⊎-elim (λ (e : k ≡ n). rw e (s .2))
-          (λ (i : k < n). through (num (at a k)) (num m) (num x) (den (at a k)) (den m) (den x) (den-pos m) (u .1 k i) (s .1))
-          (eq-or-lt-of-le (le-of-suc-le-suc l)),
-    )
-
+-- ---- quotients
 -- a finite list over its largest absolute value, if that is not 0, is finite
 pub quotients-finite : (n : ℕ) (a : List Float) → allFinite n a ≡ true → eq (amax n a) f0 ≡ false → allFinite n (divided n a (amax n a)) ≡ true
 quotients-finite n a h z =

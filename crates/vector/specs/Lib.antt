@@ -1,3 +1,2 @@
 pub mod Vector
 pub mod Laws
-pub mod Known

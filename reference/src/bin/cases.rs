@@ -27,14 +27,14 @@ fn main() -> std::io::Result<()> {
 
 fn write_lists(seed: u64) -> std::io::Result<()> {
     lists::algebra(seed).write("replay_algebra")?;
-    for (program, call, count) in [
-        ("replay_kkt", Call::Kkt, 2000),
-        ("replay_bounded", Call::Bounded, 1200),
-        ("replay_piecewise", Call::Piecewise, 1200),
-        ("replay_capped", Call::Capped, 1200),
-    ] {
-        lists::engine(call, seed, count).write(program)?;
-    }
+    lists::engine(Call::Kkt, seed, 2000).write("replay_kkt")?;
+    let calls = [
+        ("bounded", Call::Bounded),
+        ("piecewise", Call::Piecewise),
+        ("capped", Call::Capped),
+    ];
+    let parts = calls.map(|(name, call)| (name, lists::engine(call, seed, 1200)));
+    lists::write_all("replay_engine", &parts)?;
     let factors = lists::factors(seed);
     factors.list.write("replay_factor")?;
     println!("{}\n{}", factors.updates.table(), factors.systems.table());

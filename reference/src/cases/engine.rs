@@ -4,7 +4,7 @@ use super::code::{Decoder, Encoder, same};
 use crate::engine::{self, Capped, Kkt, Problem, Solved};
 
 /// A call of the engine.
-#[derive(Debug, Clone, Copy, PartialEq, Eq)]
+#[derive(Debug, Clone, Copy, PartialEq, Eq, PartialOrd, Ord)]
 pub enum Call {
     Kkt,
     Bounded,

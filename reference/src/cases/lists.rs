@@ -45,11 +45,25 @@ impl List {
     /// Writes the list of a program and prints what it holds.
     pub fn write(&self, program: &str) -> std::io::Result<()> {
         std::fs::write(path(program), &self.bytes)?;
-        let (records, bytes) = (self.counts.total(), self.bytes.len());
-        println!("### {program}\n\n{records} records, {bytes} bytes.\n");
-        println!("{}", self.counts.table());
+        self.print(program);
         Ok(())
     }
+
+    fn print(&self, name: &str) {
+        let (records, bytes) = (self.counts.total(), self.bytes.len());
+        println!("### {name}\n\n{records} records, {bytes} bytes.\n");
+        println!("{}", self.counts.table());
+    }
+}
+
+/// Writes named lists, one after the other, as the list of a program and prints what each holds.
+pub fn write_all(program: &str, parts: &[(&str, List)]) -> std::io::Result<()> {
+    let bytes: Vec<_> = parts.iter().map(|(_, list)| &list.bytes[..]).collect();
+    std::fs::write(path(program), bytes.concat())?;
+    for (name, list) in parts {
+        list.print(&format!("{program}, {name}"));
+    }
+    Ok(())
 }
 
 /// Where the list of a program is: its standard input.
@@ -95,7 +109,7 @@ impl Counts {
     }
 }
 
-/// The list of a call: the cases made on purpose, then seeded ones up to `count` records.
+/// The cases of a call: those made on purpose, then seeded ones up to `count` records.
 pub fn engine(call: Call, seed: u64, count: usize) -> List {
     let mut list = List::default();
     let mut searches = LongSearches::default();

@@ -1,17 +1,18 @@
-use Rattle.folds.specs.Kit.{_≡_, _+_, _-_, _≤_, refl, sym, _∙_, arith, kit}
+use Rattle.folds.specs.Kit.{_≡_, _+_, _-_, _<_, _≤_, refl, sym, _∙_, arith, kit}
 use Rattle.sizes.specs.Sizes as Sizes
 use Rattle.iterate.specs.Problem.{problem}
 use Rattle.iterate.specs.Iterate.{Consistent}
 use Rattle.factoring.specs.Kept.{keptOf, Good}
 use Rattle.factoring.specs.Laws.{good-new}
 use Rattle.pass.specs.State.{state}
-use Rattle.active.specs.Active.{budget, passes}
+use Rattle.minimum.specs.Counted.{budget}
+use Rattle.active.specs.Active.{passes}
 use Rattle.active.proofs.Left.{Left, all-left, all-spent, again, ended, Same, same-room}
 use Rattle.active.proofs.passes.Statement.{statement}
 use Rattle.active.proofs.passes.Tie as tie
 
 abbrev Inv-loop : tie.InvT-loop
-Inv-loop segments fixed q c e b counts magnitudes room₀ q-free₀ e-free₀ gram₀ l₀ n at₀ factoring₀ made₀ made-end
+Inv-loop segments fixed q c e b counts magnitudes room₀ q-free₀ e-free₀ gram₀ l₀ at₀ factoring₀ made₀ made-end
     room q-free e-free gram l at factoring made =
     let p = problem (counts .originals) (counts .n) (counts .m) q c e b in
     (made ≤ made-end)
@@ -22,7 +23,7 @@ Inv-loop segments fixed q c e b counts magnitudes room₀ q-free₀ e-free₀ gr
     passes p segments fixed (magnitudes .q) (magnitudes .linear) at₀ l₀)
 
 abbrev μ-loop : tie.MeasureT-loop
-μ-loop segments fixed q c e b counts magnitudes room₀ q-free₀ e-free₀ gram₀ l₀ n at₀ factoring₀ made₀ made-end
+μ-loop segments fixed q c e b counts magnitudes room₀ q-free₀ e-free₀ gram₀ l₀ at₀ factoring₀ made₀ made-end
     room q-free e-free gram l at factoring made =
     made-end - made
 
@@ -33,8 +34,15 @@ gave c = c .before .before .before .before .before .before .before .before .befo
 abbrev turn : tie.After-pass Inv-loop μ-loop → tie.In-loop Inv-loop μ-loop
 turn c = c .before .before .before .before .before .before
 
+abbrev start-1 : tie.After-new Inv-loop μ-loop → tie.Start Inv-loop μ-loop
+start-1 c = c .before .before .before .before .before .before .before .before .before .before .before
+
 abbrev start : tie.At-loop Inv-loop μ-loop → tie.Start Inv-loop μ-loop
-start c = c .before .before .before .before .before .before .before .before .before .before .before .before
+start c = start-1 (c .before .before)
+
+-- a turn is one of the budget's
+under : (c : tie.In-loop Inv-loop μ-loop) → c .before .loop .made < budget (start (c .before) .args .counts .n)
+under c = rw (c .before .before .budget .ensures) at (c .loop-test .taken)
 
 -- after a pass the lent slices are as long as before the first
 lengths : (c : tie.After-slice-known10 Inv-loop μ-loop) →
@@ -54,12 +62,14 @@ lengths c =
 
 -- where the budget is spent, and where the last pass was made
 returns-2 : tie.Need-returns-2 Inv-loop μ-loop
-returns-2 c = all-spent _ _ _ _ _ _ _ _ _ _ _ _ _ (c .before .before .loop .inv .4) _ (c .before .loop-test .left) (c .refused .ensures)
+returns-2 c =
+    let s = c .before .before in
+    all-spent _ _ _ _ _ _ _ _ _ _ _ _ _ (s .loop .inv .4) _ (rw (s .before .budget .ensures) at (c .before .loop-test .left)) (c .refused .ensures)
 
 returns : tie.Need-returns Inv-loop μ-loop
 returns c =
     let a = gave (c .before .before .before .before) in
-    ended _ _ _ _ _ _ _ _ _ _ _ _ _ (turn a .before .loop .inv .4) _ _ (turn a .loop-test .taken) (a .pass .ensures .0) _ (c .answered .ensures)
+    ended _ _ _ _ _ _ _ _ _ _ _ _ _ (turn a .before .loop .inv .4) _ _ (under (turn a)) (a .pass .ensures .0) _ (c .answered .ensures)
 
 pass-requires : tie.Need-pass-requires Inv-loop μ-loop
 pass-requires c κs =
@@ -76,33 +86,31 @@ loop-again c =
       lengths k,
       a .pass .ensures .1 .0,
       a .pass .ensures .1 .1,
-      again _ _ _ _ _ _ _ _ _ _ _ _ _ (i .4) _ _ (turn a .loop-test .taken) (a .pass .ensures .0)
+      again _ _ _ _ _ _ _ _ _ _ _ _ _ (i .4) _ _ (under (turn a)) (a .pass .ensures .0)
           (sym (c .before .before .before .goes-on .ensures) ∙ c .before .before .if1 .taken),
     )
 
 -- a number of passes fits
 counted-fits : (c : tie.After-slice-known10 Inv-loop μ-loop) → turn (gave c) .before .loop .made + 1 ≤ budget Sizes.variables
 counted-fits c =
-    let t = turn (gave c) in let v = start (t .before) .pre .0 .variables in omega (arith, t .loop-test .taken)
+    let t = turn (gave c) in let v = start (t .before) .pre .0 .variables in omega (arith, under t)
 
 pub passes-spec : {M : Type 1} → statement M
 passes-spec =
     tie.close
     (tie.spec Inv-loop μ-loop
     (λ c κs. search kit)  -- new-requires
-    (λ c. search kit)  -- mul-made-end
-    (λ c. search kit)  -- add-made-end
+    (λ c κs. start-1 c .pre .0 .variables)  -- budget-requires
     (λ c. (
       omega arith,
       record { of-room = refl; of-q = refl; of-e = refl; of-gram = refl; of-l = refl },
       search kit,
-      good-new _ _ _ (c .new .ensures),
-      all-left _ _ _ _ _ _ _ _ _ _ _ _ _ (c .new .ensures),
+      good-new _ _ _ (c .before .new .ensures),
+      all-left _ _ _ _ _ _ _ _ _ _ _ _ _ (c .before .new .ensures),
     ))  -- loop-holds
     pass-requires
     (λ c κs. search kit)  -- goes-on-requires
-    (λ c. omega (arith, counted-fits (c .before .before .before)))  -- add-answered
-    (λ c κs. sym (c .before .goes-on .ensures) ∙ c .if1 .left)  -- answered-requires
+    (λ c κs. (sym (c .before .goes-on .ensures) ∙ c .if1 .left, omega (arith, counted-fits (c .before .before .before))))  -- answered-requires
     (λ c. lengths (c .before .before .before .before) .of-room)
     (λ c. lengths (c .before .before .before .before) .of-q)
     (λ c. lengths (c .before .before .before .before) .of-e)

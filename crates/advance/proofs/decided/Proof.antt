@@ -3,9 +3,10 @@ use lib.ListN.{take}
 use lib.Seq.{length-take-le}
 use Rattle.sizes.specs.Sizes as Sizes
 use Rattle.segments.specs.Segments.{last, segmentsAt}
-use Rattle.iterate.specs.Laws.{passed-more, passed-optimal, passed-notConverged}
-use Rattle.advance.specs.Advance.{withBoard, decided}
-use Rattle.advance.specs.Laws.{length-mapped, release-enters, entered-placed, board-consistent}
+use Rattle.iterate.specs.Laws.{passed-more, passed-optimal, passed-notConverged, length-mapped, board-is, board-consistent}
+use Rattle.release_at.specs.Laws.{release-enters}
+use Rattle.advance.specs.Advance.{decided}
+use Rattle.advance.specs.Laws.{entered-placed}
 use Rattle.advance.proofs.decided.Statement.{statement}
 use Rattle.advance.proofs.decided.Tie as tie
 
@@ -61,12 +62,12 @@ returns c =
     )
 
 returns-2 : tie.Need-returns-2
-unfolding decided withBoard
+unfolding decided
 returns-2 c =
     let s = start (c .before .before .before) in
     let w = c .with-board2 .ensures in (
       passed-optimal _ _ _ refl
-          ∙ rw (w, ← c .before .before .before .release .ensures, c .before .enum-told .given .1),
+          ∙ rw (w, board-is, ← c .before .before .before .release .ensures, c .before .enum-told .given .1),
       rw w (board-consistent (s .args .counts .n) (s .args .segments) (s .args .iterate) (s .args .board) _ (s .pre .2)),
     )
 

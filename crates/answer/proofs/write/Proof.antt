@@ -1,4 +1,5 @@
-use Rattle.folds.specs.Kit.{ℕ, refl, ap, _∙_, _+_, _*_, _≤_, length, arith, needs}
+use borrow.Author.Tests.{leb-true, leb-false, not-true, not-false}
+use Rattle.folds.specs.Kit.{ℕ, refl, sym, ap, _∙_, _+_, _*_, _≤_, length, arith, needs}
 use mir.Syntax.{w64}
 use Rattle.ints.specs.Held.{param}
 use Rattle.answer.specs.File.{Answer, answerOf, bytes, code, field, fileSize}
@@ -16,7 +17,7 @@ module _ (e : tie.Else1) where
   s = e .before .before .before
 
   large : fileSize (length (s .args .times .now)) (length (s .args .prices .now)) ≤ length (s .args .out .now)
-  large = omega (arith, e .if1 .left, e .before .file-size .ensures)
+  large = leb-true _ _ (sym (e .before .has-room .ensures) ∙ not-false _ (e .if1 .left))
 
   room : 22 + 4 * length (s .args .times .now) + 8 * length (s .args .prices .now) ≤ length (s .args .out .now)
   unfolding fileSize
@@ -49,7 +50,7 @@ write-spec =
     (λ c κs. search needs)
     (λ c.
     let a = c .before .before .before in
-    too-small (said a) (a .args .out .now) (omega (arith, c .if1 .taken, c .before .file-size .ensures)))
+    too-small (said a) (a .args .out .now) (leb-false _ _ (sym (c .before .has-room .ensures) ∙ not-true _ (c .if1 .taken))))
     (λ c. search needs)
     (λ c. search needs)
     (λ c. search needs)

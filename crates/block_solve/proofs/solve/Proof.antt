@@ -6,8 +6,10 @@ use native.Mathlib.Nat.{lt-of-le-of-lt}
 use Rattle.folds.specs.Cell.{area}
 use Rattle.format.specs.Structs.{blockOf}
 use Rattle.format.specs.Entries.{words-length, anchors-length, spans-length}
-use Rattle.block_qp.specs.Qp.{hessian, anchorColumns, spanColumns}
-use Rattle.block_qp.specs.Laws.{length-hessian, length-anchorColumns, length-spanColumns}
+use Rattle.block_cost.specs.Cost.{hessian}
+use Rattle.block_cost.specs.Laws.{length-hessian}
+use Rattle.block_rows.specs.Rows.{anchorColumns, spanColumns}
+use Rattle.block_rows.specs.Laws.{length-anchorColumns, length-spanColumns}
 use Rattle.block_solve.specs.Laws.{Front, front, front-room, front-long, front-is}
 use Rattle.block_solve.proofs.solve.Statement.{statement}
 use Rattle.block_solve.proofs.solve.Tie as tie

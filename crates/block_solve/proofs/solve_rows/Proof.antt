@@ -2,8 +2,8 @@ use Rattle.folds.specs.Kit.{sym, _∙_}
 use lib.Seq.{length-take-le}
 use Rattle.format.specs.Structs.{blockOf}
 use Rattle.format.specs.Entries.{anchors-length, spans-length}
-use Rattle.block_qp.specs.Qp.{anchorValues, spanLowers, spanUppers}
-use Rattle.block_qp.specs.Laws.{length-anchorValues, length-spanLowers, length-spanUppers}
+use Rattle.block_rows.specs.Rows.{anchorValues, spanLowers, spanUppers}
+use Rattle.block_rows.specs.Laws.{length-anchorValues, length-spanLowers, length-spanUppers}
 use Rattle.block_solve.specs.Laws.{gathered, Front, front, front-room, front-long, front-is}
 use Rattle.block_solve.proofs.solve_rows.Statement.{statement}
 use Rattle.block_solve.proofs.solve_rows.Tie as tie

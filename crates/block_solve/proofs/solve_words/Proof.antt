@@ -2,8 +2,10 @@ use Rattle.folds.specs.Kit.{sym, _∙_}
 use lib.Seq.{length-take-le}
 use Rattle.format.specs.Structs.{blockOf}
 use Rattle.format.specs.Entries.{words-length}
-use Rattle.block_qp.specs.Qp as Qp
-use Rattle.block_qp.specs.Laws.{length-linear, length-lowers, length-uppers, length-keys, length-slopes, length-starts}
+use Rattle.block_cost.specs.Cost as Cost
+use Rattle.block_cost.specs.Laws.{length-linear}
+use Rattle.word_numbers.specs.Words as Words
+use Rattle.word_numbers.specs.Laws.{length-lowers, length-uppers, length-keys, length-slopes, length-starts}
 use Rattle.block_solve.specs.Laws.{Front, front, front-room, front-long, front-is}
 use Rattle.block_solve.proofs.solve_words.Statement.{statement}
 use Rattle.block_solve.proofs.solve_words.Tie as tie
@@ -19,22 +21,22 @@ module _ (c : tie.After-start2) where
   abbrev s : tie.Start
   s = start u
 
-  linear : Front (s .args .block .words) (u .before .before .before .before .before .before .linear .last .1 .0) (Qp.linear (blockOf (s .args .block)))
+  linear : Front (s .args .block .words) (u .before .before .before .before .before .before .linear .last .1 .0) (Cost.linear (blockOf (s .args .block)))
   linear = front (u .before .before .before .before .before .before .linear .ensures) (length-linear _ ∙ words-length (s .pre .0))
 
-  lowers : Front (s .args .block .words) (u .before .before .before .lowers .last .1 .0) (Qp.lowers (blockOf (s .args .block)))
+  lowers : Front (s .args .block .words) (u .before .before .before .lowers .last .1 .0) (Words.lowers (blockOf (s .args .block)))
   lowers = front (u .before .before .before .lowers .ensures) (length-lowers _ ∙ words-length (s .pre .0))
 
-  uppers : Front (s .args .block .words) (u .uppers .last .1 .0) (Qp.uppers (blockOf (s .args .block)))
+  uppers : Front (s .args .block .words) (u .uppers .last .1 .0) (Words.uppers (blockOf (s .args .block)))
   uppers = front (u .uppers .ensures) (length-uppers _ ∙ words-length (s .pre .0))
 
-  keys : Front (s .args .block .words) (c .before .before .before .before .before .before .before .keys .last .1 .0) (Qp.keys (blockOf (s .args .block)))
+  keys : Front (s .args .block .words) (c .before .before .before .before .before .before .before .keys .last .1 .0) (Words.keys (blockOf (s .args .block)))
   keys = front (c .before .before .before .before .before .before .before .keys .ensures) (length-keys _ ∙ words-length (s .pre .0))
 
-  slopes : Front (s .args .block .words) (c .before .before .before .before .slopes2 .last .1 .0) (Qp.slopes (blockOf (s .args .block)))
+  slopes : Front (s .args .block .words) (c .before .before .before .before .slopes2 .last .1 .0) (Words.slopes (blockOf (s .args .block)))
   slopes = front (c .before .before .before .before .slopes2 .ensures) (length-slopes _ ∙ words-length (s .pre .0))
 
-  starts : Front (s .args .block .words) (c .before .starts .last .1 .0) (Qp.starts (blockOf (s .args .block)))
+  starts : Front (s .args .block .words) (c .before .starts .last .1 .0) (Words.starts (blockOf (s .args .block)))
   starts = front (c .before .starts .ensures) (length-starts _ ∙ words-length (s .pre .0))
 
 pub solve-words-spec : {M : Type 1} → statement M

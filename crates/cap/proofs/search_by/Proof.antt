@@ -1,12 +1,11 @@
 use Rattle.folds.specs.Kit.{_≡_, refl, sym, _∙_, _+_, _≤_, arith, length, needs}
-use lib.ListN.{take}
 use lib.Seq.{length-take-le}
 use Rattle.sizes.specs.Sizes as Sizes
-use Rattle.active.specs.Laws.{minimizedOf-optimal, minimizedOf-nonFinite, minimizedOf-singular, minimizedOf-unbounded, minimizedOf-notConverged}
+use Rattle.minimum.specs.Laws.{minimizedOf-optimal, minimizedOf-nonFinite, minimizedOf-singular, minimizedOf-unbounded, minimizedOf-notConverged}
+use Rattle.minimum.specs.Laws.{cappedOf-optimal, cappedOf-nonFinite, cappedOf-singular, cappedOf-notConverged}
 use Rattle.bracket.specs.Ends.{new-rising}
 use Rattle.bracket.specs.Laws.{new-of}
 use Rattle.cap.specs.Capped.{searchBy}
-use Rattle.cap.specs.Laws.{cappedOf-optimal, cappedOf-nonFinite, cappedOf-singular, cappedOf-notConverged}
 use Rattle.cap.specs.Laws.{search-free, search-past, search-unbounded, search-as}
 use Rattle.cap.proofs.search_by.Statement.{statement}
 use Rattle.cap.proofs.search_by.Tie as tie
@@ -94,16 +93,16 @@ search-by-spec =
     reach-and-narrow-requires-2
     (λ c κs. search needs)  -- accepted-requires-2
     (λ c. search needs)  -- enum-told-3
-    (λ c κs. search needs)  -- refused-requires
+    (λ c κs. search needs)  -- refused-capped-requires
     (λ c. search needs)  -- enum-told-4
-    (λ c κs. search needs)  -- refused-requires-2
+    (λ c κs. search needs)  -- refused-capped-requires-2
     (λ c. search needs)  -- enum-told-5
-    (λ c κs. search needs)  -- refused-requires-3
+    (λ c κs. search needs)  -- refused-capped-requires-3
     returns-2
     returns-3
     (λ c. search-as _ _ _ _ _ _ _ _ _ _ _ _ _ _ _ _ _ (minimizedOf-nonFinite _ _ _ (c .before .enum-told3 .given .1))
-    (cappedOf-nonFinite _ _ _ (c .refused .ensures)))  -- returns-4
+    (cappedOf-nonFinite _ _ _ (c .refused-capped .ensures)))  -- returns-4
     (λ c. search-as _ _ _ _ _ _ _ _ _ _ _ _ _ _ _ _ _ (minimizedOf-singular _ _ _ (c .before .enum-told4 .given .1))
-    (cappedOf-singular _ _ _ (c .refused2 .ensures)))  -- returns-5
+    (cappedOf-singular _ _ _ (c .refused-capped2 .ensures)))  -- returns-5
     (λ c. search-as _ _ _ _ _ _ _ _ _ _ _ _ _ _ _ _ _ (minimizedOf-notConverged _ _ _ (c .before .enum-told5 .given .1))
-    (cappedOf-notConverged _ _ _ (c .refused3 .ensures))))  -- returns-6
+    (cappedOf-notConverged _ _ _ (c .refused-capped3 .ensures))))  -- returns-6

@@ -1,8 +1,10 @@
 use Rattle.folds.specs.Kit.{sym, _∙_, arith, needs}
+use Rattle.minimum.specs.Laws.{cappedOf-capped}
 use Rattle.quadratic.specs.Laws.{shape}
 use Rattle.turnover.specs.Laws.{kink-above}
 use Rattle.multiplier.specs.Ready.{ready}
-use Rattle.cap.specs.Laws.{cappedOf-capped, wrong-shape, blank-bound, engine-answers, refused-wrongShape, refused-blankBound}
+use Rattle.outputs.specs.Capped.{refused-wrongShape, refused-blankBound}
+use Rattle.cap.specs.Laws.{wrong-shape, blank-bound, engine-answers}
 use Rattle.cap.proofs.solve_turnover_capped.Statement.{statement}
 use Rattle.cap.proofs.solve_turnover_capped.Tie as tie
 
@@ -23,14 +25,14 @@ search-multiplier-requires c κs =
     let s = shape _ _ _ _ _ _ _ _ _ _ _ _ _ _ _ _ _ (sym (t .before .shaped .ensures) ∙ t .if1 .taken) in
     (ready s, rw (c .kink-multiplier .ensures) (kink-above _ _ _ _), s .start-long)
 
-add-write : tie.Need-add-write
-add-write c =
+add-write-capped : tie.Need-add-write-capped
+add-write-capped c =
     let t = c .before .before .before .before .before .before in
     let s = shape _ _ _ _ _ _ _ _ _ _ _ _ _ _ _ _ _ (sym (t .before .shaped .ensures) ∙ t .if1 .taken) .holds in
     omega (arith, s .equalities, s .rows)
 
-write-requires : tie.Need-write-requires
-write-requires c κs =
+write-capped-requires : tie.Need-write-capped-requires
+write-capped-requires c κs =
     let t = c .before .before .before .before .before .before .before .before .before .before in
     let s = shape _ _ _ _ _ _ _ _ _ _ _ _ _ _ _ _ _ (sym (t .before .shaped .ensures) ∙ t .if1 .taken) in
     (s .holds .originals, omega (arith, s .holds .equalities, s .holds .rows), s .x-long, s .multipliers-long)
@@ -49,7 +51,7 @@ returns-2 c =
     rw (engine-answers _ _ _ _ _ _ _ _ _ _ _ _ _ _ _ _ _ _ (sym (t .before .shaped .ensures) ∙ t .if1 .taken)
     (sym (s .before .before .before .blank .ensures) ∙ s .before .before .if2 .left) (s .before .kink-multiplier .ensures)
     (sym (cappedOf-capped _ _ _) ∙ s .search-multiplier .ensures))
-    (c .before .before .before .before .write .ensures)
+    (c .before .before .before .before .write-capped .ensures)
 
 returns-3 : tie.Need-returns-3
 returns-3 c =
@@ -64,8 +66,8 @@ solve-turnover-capped-spec =
     returns
     kink-multiplier-requires
     search-multiplier-requires
-    add-write
-    write-requires
+    add-write-capped
+    write-capped-requires
     (λ c. search needs)  -- same-length
     (λ c. search needs)  -- same-length-2
     returns-2

@@ -1,6 +1,6 @@
 use Rattle.folds.specs.Kit.{_≡_, _+_, _-_, _≤_, arith, length, fold, fold-call, kit}
-use Rattle.matrix.specs.Matrix.{cell, putColumn}
-use Rattle.matrix.specs.Laws.{matrix-kit}
+use Rattle.columns.specs.Columns.{cell, putColumn}
+use Rattle.columns.specs.Laws.{matrix-kit}
 use Rattle.constraints.specs.Constraints.{rowsTransposed}
 use Rattle.constraints.proofs.rows_transposed.Statement.{statement}
 use Rattle.constraints.proofs.rows_transposed.Tie as tie

@@ -1,6 +1,6 @@
 use Rattle.folds.specs.Kit.{_≡_, _+_, _-_, _≤_, arith, length, kit}
-use Rattle.matrix.specs.Matrix.{cell, putColumn}
-use Rattle.matrix.specs.Laws.{column-kit, column-call}
+use Rattle.columns.specs.Columns.{cell, putColumn}
+use Rattle.columns.specs.Laws.{column-kit, column-call}
 use Rattle.constraints.proofs.rows_transposed_column.Statement.{statement}
 use Rattle.constraints.proofs.rows_transposed_column.Tie as tie
 

@@ -1,6 +1,6 @@
 use Rattle.folds.specs.Kit.{_≡_, _-_, _≤_, arith, length, length-set, set, fold, fold-call, over-kit}
 use Rattle.arith.specs.Float.{fmul}
-use Rattle.matrix.specs.Matrix.{cell}
+use Rattle.columns.specs.Columns.{cell}
 use Rattle.eigen.specs.Eigen.{values}
 use Rattle.eigen.proofs.eigenvalues.Statement.{statement}
 use Rattle.eigen.proofs.eigenvalues.Tie as tie

@@ -1,6 +1,6 @@
 use Rattle.folds.specs.Kit.{_≡_, _+_, _-_, _≤_, arith, needs, span, spans, span-call}
 use Rattle.arith.specs.Float.{fadd, fmul}
-use Rattle.matrix.specs.Matrix.{cell}
+use Rattle.columns.specs.Columns.{cell}
 use Rattle.eigen.specs.Eigen.{offRow}
 use Rattle.eigen.proofs.off_row.Statement.{statement}
 use Rattle.eigen.proofs.off_row.Tie as tie

@@ -1,6 +1,7 @@
 use Rattle.folds.specs.Kit.{_≡_, _+_, _-_, _≤_, arith, length, needs, span, spans, span-call}
 use Rattle.folds.specs.Part.{two}
-use Rattle.eigen.specs.Eigen.{rotate, sweepRow}
+use Rattle.rotation.specs.Rotation.{rotate}
+use Rattle.eigen.specs.Eigen.{sweepRow}
 use Rattle.eigen.proofs.sweep_row.Statement.{statement}
 use Rattle.eigen.proofs.sweep_row.Tie as tie
 

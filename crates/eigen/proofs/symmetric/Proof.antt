@@ -1,6 +1,6 @@
 use Rattle.folds.specs.Kit.{_≡_, _-_, _≤_, length, fold}
-use Rattle.matrix.specs.Matrix.{putColumn}
-use Rattle.matrix.specs.Laws.{matrix-kit}
+use Rattle.columns.specs.Columns.{putColumn}
+use Rattle.columns.specs.Laws.{matrix-kit}
 use Rattle.eigen.specs.Eigen.{mean, symmetric}
 use Rattle.eigen.proofs.symmetric.Statement.{statement}
 use Rattle.eigen.proofs.symmetric.Tie as tie

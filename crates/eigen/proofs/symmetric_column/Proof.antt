@@ -1,6 +1,6 @@
 use Rattle.folds.specs.Kit.{_≡_, _-_, _≤_, arith, length}
-use Rattle.matrix.specs.Matrix.{putColumn}
-use Rattle.matrix.specs.Laws.{column-call, column-kit}
+use Rattle.columns.specs.Columns.{putColumn}
+use Rattle.columns.specs.Laws.{column-call, column-kit}
 use Rattle.eigen.specs.Eigen.{mean}
 use Rattle.eigen.proofs.symmetric_column.Statement.{statement}
 use Rattle.eigen.proofs.symmetric_column.Tie as tie

@@ -3,7 +3,7 @@ use native.Mathlib.Nat.{lt-of-lt-of-le}
 use lib.ListN.{take}
 use Rattle.folds.specs.Tab.{taken-over}
 use Rattle.folds.specs.Marks.{rising, rising-few, rising-below}
-use Rattle.matrix.specs.Laws.{length-column}
+use Rattle.columns.specs.Laws.{length-column}
 use Rattle.factor_update.specs.Factor.{columnOn}
 use Rattle.factor_update.proofs.column_on.Statement.{statement}
 use Rattle.factor_update.proofs.column_on.Tie as tie

@@ -1,7 +1,8 @@
 use Rattle.folds.specs.Kit.{_≡_, true, false, _-_, _≤_, ap, arith, length, needs, walk, out, walk-call, walk-stop, walks}
 use Rattle.folds.specs.Fold.{walk-end}
 use borrow.Author.Tests.{not-true, not-false}
-use Rattle.factor_update.specs.Held.{held, joinOne, joins, factorOf}
+use Rattle.leaving.specs.Held.{held}
+use Rattle.factor_update.specs.Held.{joinOne, joins, factorOf}
 use Rattle.factor_update.proofs.joins.Statement.{statement}
 use Rattle.factor_update.proofs.joins.Tie as tie
 

@@ -1,7 +1,7 @@
 use Rattle.folds.specs.Kit.{_≤_, arith, length, pick, kit}
 use Rattle.sizes.specs.Sizes as Sizes
+use Rattle.variable_set.specs.Laws.{listed-few, listed-below}
 use Rattle.factor_update.specs.Held.{updated}
-use Rattle.factor_update.specs.Laws.{listed-few, listed-below}
 use Rattle.factor_update.specs.Lists.{updated-same}
 use Rattle.factor_update.proofs.updated.Statement.{statement}
 use Rattle.factor_update.proofs.updated.Tie as tie

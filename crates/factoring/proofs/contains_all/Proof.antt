@@ -4,7 +4,7 @@ use Rattle.folds.specs.Marks.{contains}
 use borrow.Author.Tests.{not-true, not-false}
 use Rattle.sizes.specs.Sizes as Sizes
 use Rattle.matrix.specs.Matrix.{index}
-use Rattle.factor_update.specs.Laws.{marked-marks}
+use Rattle.variable_set.specs.Laws.{marked-marks}
 use Rattle.factoring.specs.Kept.{containsAll}
 use Rattle.factoring.proofs.contains_all.Statement.{statement}
 use Rattle.factoring.proofs.contains_all.Tie as tie

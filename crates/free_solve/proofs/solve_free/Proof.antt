@@ -3,7 +3,7 @@ use native.Mathlib.Nat.{le-refl, le-trans}
 use lib.Seq.{length-take-le}
 use Rattle.folds.specs.Cell.{area}
 use Rattle.sizes.specs.Sizes as Sizes
-use Rattle.factor_update.specs.Laws.{listed-few}
+use Rattle.variable_set.specs.Laws.{listed-few}
 use Rattle.free_problem.specs.Laws.{parts}
 use Rattle.free_solve.specs.Laws.{free-system, free-from, regular-from}
 use Rattle.free_solve.proofs.solve_free.Statement.{statement}

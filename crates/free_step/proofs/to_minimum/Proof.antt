@@ -4,8 +4,8 @@ use native.Mathlib.Nat.{lt-of-lt-of-le}
 use lib.Seq.{length-take-le}
 use Rattle.sizes.specs.Sizes as Sizes
 use Rattle.slack_rows.specs.Laws.{length-withSlackSteps, allMultipliers-taken}
+use Rattle.full_step.specs.Laws.{split-few}
 use Rattle.free_step.specs.FreeStep.{toMinimum}
-use Rattle.free_step.specs.Laws.{split-few}
 use Rattle.free_step.proofs.to_minimum.Statement.{statement}
 use Rattle.free_step.proofs.to_minimum.Tie as tie
 

@@ -1,5 +1,5 @@
 use Rattle.folds.specs.Kit.{sym, _∙_, length, needs}
-use Rattle.blocking.specs.Laws.{ratio-below}
+use Rattle.step_length.specs.Laws.{ratio-below}
 use Rattle.iterate.specs.Laws.{passed-unbounded}
 use Rattle.full_step.specs.FullStep.{atRatio, rayStep}
 use Rattle.full_step.proofs.ray_step.Statement.{statement}

@@ -6,7 +6,7 @@ use Rattle.sizes.specs.Sizes as Sizes
 use Rattle.vector.specs.Laws.{length-sub}
 use Rattle.segments.specs.Segments.{AllPlaced}
 use Rattle.free_list.specs.Laws.{listed-below, listed}
-use Rattle.blocking.specs.Laws.{passed-below}
+use Rattle.step_length.specs.Laws.{passed-below}
 use Rattle.blocking.specs.declared.Board.{Board}
 use Rattle.advance.specs.Laws.{settled-placed}
 use Rattle.full_step.specs.FullStep.{atBlocking, stepped}

@@ -1,11 +1,10 @@
 use Rattle.folds.specs.Kit.{sym, arith, needs}
-use Rattle.folds.specs.Cell.{small-fits}
 use Rattle.folds.specs.Tab.{taken-over}
 use native.Mathlib.Nat.{le-refl}
 use lib.Seq.{length-take-le}
 use Rattle.vector.specs.Laws.{length-filled}
-use Rattle.segments.specs.Laws.{length-allFixed}
-use Rattle.in_units.specs.Laws.{started-consistent, units-from}
+use Rattle.starting.specs.Laws.{length-allFixed, started-consistent}
+use Rattle.in_units.specs.Laws.{units-from}
 use Rattle.in_units.proofs.solve_piecewise_in_units.Statement.{statement}
 use Rattle.in_units.proofs.solve_piecewise_in_units.Tie as tie
 
@@ -17,7 +16,7 @@ abbrev setup : tie.After-passes-arg5 → tie.After-fixed
 setup c = c .before .before .before .before .before
 
 abbrev first : tie.After-started → tie.After-all-fixed
-first c = c .before .before .before .before .before
+first c = c .before .before
 
 abbrev known : tie.After-slice-known5 → tie.Start
 known c = c .before .before .before .before .before .before .before .before .before .before
@@ -45,20 +44,15 @@ returns c =
     let g = gave c in
     let a = setup (g .before) .before in
     units-from _ _ _ _ _ _ _ _ _ (taken-over _ _ (length-allFixed _ _) (first a .all-fixed .ensures))
-    (a .before .before .before .before .amax .ensures) (a .before .before .before .amax2 .ensures)
-    (a .before .before .slope-amax .ensures) (a .before .max .ensures) (a .started .ensures) (start (first a) .pre .4) (g .passes .ensures)
+    (a .before .magnitudes .ensures .0) (a .before .magnitudes .ensures .1) (a .started .ensures) (start (first a) .pre .4) (g .passes .ensures)
 
 pub solve-piecewise-in-units-spec : {M : Type 1} → statement M
 solve-piecewise-in-units-spec =
     tie.close
     (tie.spec
     (λ c κs. let s = known c .pre in (s .0 .variables, s .1))  -- all-fixed-requires
-    (λ c. let v = start c .pre .0 .variables in small-fits v v)  -- mul-amax
-    (λ c κs. start c .pre .0 .q-holds)  -- amax-requires
-    (λ c κs. start (c .before) .pre .0 .c-holds)  -- amax-requires-2
-    (λ c κs. let s = start (c .before .before) .pre in (s .0 .variables, s .1))  -- slope-amax-requires
-    (λ c κs. search needs)  -- max-requires
-    (λ c κs. let s = start (c .before .before .before .before) .pre in (s .0 .variables, s .2, s .1))  -- started-requires
+    (λ c κs. let s = start c .pre in (s .0 .variables, s .0 .q-holds, s .0 .c-holds, s .1))  -- magnitudes-requires
+    (λ c κs. let s = start (c .before) .pre in (s .0 .variables, s .2, s .1))  -- started-requires
     (λ c. let v = start (first c) .pre .0 .variables in omega arith)  -- array-share-prefix-fixed
     slice-aggregate-passes
     passes-requires

@@ -1,6 +1,7 @@
-use Rattle.folds.specs.Kit.{refl, sym, _∙_, arith, needs, pick}
+use Rattle.folds.specs.Kit.{sym, _∙_, arith, needs, pick}
 use Rattle.solution.specs.Laws.{solution-answer}
-use Rattle.kkt.specs.Kkt.{solveKkt, number, xOr, multipliersOr}
+use Rattle.outputs.specs.Kkt.{refused-wrongShape}
+use Rattle.kkt.specs.Kkt.{solveKkt}
 use Rattle.kkt.specs.Laws.{shape, sized}
 use Rattle.kkt.proofs.solve_kkt.Statement.{statement}
 use Rattle.kkt.proofs.solve_kkt.Tie as tie
@@ -9,8 +10,8 @@ solve-shaped-requires : tie.Need-solve-shaped-requires
 solve-shaped-requires c κs =
     let s = shape _ _ _ _ _ _ _ _ (sym (c .before .shaped .ensures) ∙ c .if1 .taken) in (sized _ _ _ _ _ _ _ _ s, s .columns)
 
-write-requires : tie.Need-write-requires
-write-requires c κs =
+write-solution-requires : tie.Need-write-solution-requires
+write-solution-requires c κs =
     let t = c .before .before .before .before .before in
     let s = shape _ _ _ _ _ _ _ _ (sym (t .before .shaped .ensures) ∙ t .if1 .taken) in
     (s .few, omega (arith, s .columns), s .x-long, s .multipliers-long)
@@ -20,11 +21,11 @@ unfolding solveKkt pick
 returns c =
     let s = c .before .before .before .before .before .before .before .before .before in
     let e = sym (solution-answer _ _ _) ∙ s .solve-shaped .ensures in
-    rw (← s .before .before .shaped .ensures, s .before .if1 .taken, ← e) (c .before .before .before .before .write .ensures)
+    rw (← s .before .before .shaped .ensures, s .before .if1 .taken, ← e) (c .before .before .before .before .write-solution .ensures)
 
 returns-2 : tie.Need-returns-2
-unfolding solveKkt number xOr multipliersOr pick
-returns-2 c = rw (← c .before .shaped .ensures, c .if1 .left) (record { numbered = refl; x-written = refl; multipliers-written = refl })
+unfolding solveKkt pick
+returns-2 c = rw (← c .before .shaped .ensures, c .if1 .left) (refused-wrongShape _ _)
 
 pub solve-kkt-spec : {M : Type 1} → statement M
 solve-kkt-spec =
@@ -32,7 +33,7 @@ solve-kkt-spec =
     (tie.spec
     (λ c κs. search needs)  -- shaped-requires
     solve-shaped-requires
-    write-requires
+    write-solution-requires
     (λ c. search needs)  -- same-length
     (λ c. search needs)  -- same-length-2
     returns

@@ -28,6 +28,7 @@ use denote.Struct.Laws as LL
 use denote.Triple.Statement.{Contract, Triple}
 use denote.Triple.Call.{calls-at}
 use denote.Triple.Entry.{Args, Vals, alive}
+use denote.Triple.Clauses.{atExit}
 use denote.Triple.Spec.{Meets, tripleOf}
 use denote.Triple.Table.{entered, cited}
 use Rattle.factoring.specs.declared.Factoring.{Factoring}
@@ -98,7 +99,9 @@ module _ {M : Type 1} (𝓤 : URA M) (H : Heap 𝓤) (A : Atoms 𝓤) (W : Given
           returns ! (look ! 12 refl) $ forget ! 0 refl $ forget ! 5 refl $ forget ! 7 refl $ forget ! 10 refl $ forget ! 12 refl $
           move ! (12 ∷ 13 ∷ []) $ free1 ! $ move ! (10 ∷ 11 ∷ []) $ free1 ! $ move ! (0 ∷ 9 ∷ []) $ free1 ! $ move ! (6 ∷ 7 ∷ []) $ free1 ! $
           move ! (4 ∷ 5 ∷ []) $ free1 ! $ free0 ! $
-          left-held ! (ws .0) $
+          -- what `reset` ensures of the record that was lent is what is ensured of the one returned
+          move ! (3 ∷ []) $ use1 W (raw (this.clauses 𝓤 H A at-mem run κs a .ensures tt (ws .0) (atExit this.ended κs a (tt, ws .1)))) (id⊢ 𝓤 _) $
+          move ! (1 ∷ 2 ∷ 3 ∷ []) $ left-held ! (ws .0) $
           by ! (ends 𝓤 H A W this.ended (this.clauses 𝓤 H A at-mem run) mine (mach (ws .0)) (ws .0) (tt, ws .1)))))))))))
 
     meets : Meets 𝓤 H A this.signature (WpFn 𝓤 H (𝓣 .C) (𝓣 .Λ) code.function) (this.spec 𝓤 H A at-mem run)

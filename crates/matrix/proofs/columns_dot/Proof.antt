@@ -1,6 +1,7 @@
 use Rattle.folds.specs.Kit.{_≡_, _-_, _≤_, arith, fold, fold-call, kit}
 use Rattle.arith.specs.Float.{fadd, fmul, f0}
-use Rattle.matrix.specs.Matrix.{cell, columnsDot}
+use Rattle.columns.specs.Columns.{cell}
+use Rattle.matrix.specs.Matrix.{columnsDot}
 use Rattle.matrix.proofs.columns_dot.Statement.{statement}
 use Rattle.matrix.proofs.columns_dot.Tie as tie
 

@@ -1,5 +1,6 @@
-use Rattle.folds.specs.Kit.{_≡_, _-_, _≤_, arith, length, fold-call, kit}
-use Rattle.matrix.specs.Matrix.{cell, putColumn}
+use Rattle.folds.specs.Kit.{_≡_, _-_, _≤_, arith, length}
+use Rattle.columns.specs.Columns.{cell, putColumn}
+use Rattle.columns.specs.Laws.{column-call, column-kit}
 use Rattle.matrix.proofs.copy_column.Statement.{statement}
 use Rattle.matrix.proofs.copy_column.Tie as tie
 
@@ -10,11 +11,10 @@ abbrev μ-loop : tie.MeasureT-loop
 μ-loop a n m t k j b₀ i₀ b i = n - i
 
 pub copy-column-spec : {M : Type 1} → statement M
-unfolding putColumn
 copy-column-spec =
     tie.close
-    (tie.spec Inv-loop μ-loop (λ c. search kit) (λ c κs. search kit) (λ c κs. search kit) (λ c. search kit) (λ c. search kit)
+    (tie.spec Inv-loop μ-loop (λ c. search column-kit) (λ c κs. search column-kit) (λ c κs. search column-kit) (λ c. search column-kit) (λ c. search column-kit)
     (λ c. let p = c .before .before in let at = p .before .before .before .before .loop in
-    (omega arith, omega arith, fold-call _ _ _ (at .inv .2) (rw (p .put .ensures, p .before .before .get .ensures))))  -- loop-again
-    (λ c. search kit)
-    (λ c. search kit))  -- returns
+    (omega arith, omega arith, column-call _ _ _ _ _ (at .inv .2) (rw (p .put .ensures, p .before .before .get .ensures))))  -- loop-again
+    (λ c. search column-kit)
+    (λ c. search column-kit))  -- returns

@@ -1,7 +1,8 @@
 use Rattle.folds.specs.Kit.{_≡_, _-_, _≤_, arith, length, fold}
 use Rattle.arith.specs.Float.{fdiv, at}
-use Rattle.matrix.specs.Matrix.{cell, putColumn, columnsDivided}
-use Rattle.matrix.specs.Laws.{columns-edit, matrix-kit}
+use Rattle.columns.specs.Columns.{cell, putColumn}
+use Rattle.matrix.specs.Matrix.{columnsDivided}
+use Rattle.columns.specs.Laws.{columns-edit, matrix-kit}
 use Rattle.matrix.proofs.divide_columns.Statement.{statement}
 use Rattle.matrix.proofs.divide_columns.Tie as tie
 

@@ -1,7 +1,7 @@
 use Rattle.folds.specs.Kit.{_≡_, _-_, _≤_, arith, length}
 use Rattle.arith.specs.Float.{fdiv, at}
-use Rattle.matrix.specs.Matrix.{cell, putColumn}
-use Rattle.matrix.specs.Laws.{column-edit, column-kit}
+use Rattle.columns.specs.Columns.{cell, putColumn}
+use Rattle.columns.specs.Laws.{column-edit, column-kit}
 use Rattle.matrix.proofs.divide_rows_column.Statement.{statement}
 use Rattle.matrix.proofs.divide_rows_column.Tie as tie
 

@@ -1,5 +1,7 @@
-use Rattle.folds.specs.Kit.{_≡_, _-_, _≤_, length, fold, over-kit}
-use Rattle.matrix.specs.Matrix.{unit, putColumn, identity}
+use Rattle.folds.specs.Kit.{_≡_, _-_, _≤_, length, fold}
+use Rattle.columns.specs.Columns.{putColumn}
+use Rattle.columns.specs.Laws.{matrix-kit}
+use Rattle.matrix.specs.Matrix.{unit, identity}
 use Rattle.matrix.proofs.identity.Statement.{statement}
 use Rattle.matrix.proofs.identity.Tie as tie
 
@@ -10,10 +12,10 @@ abbrev μ-loop : tie.MeasureT-loop
 μ-loop a₀ n j₀ a j = n - j
 
 pub identity-spec : {M : Type 1} → statement M
-unfolding identity putColumn
+unfolding identity
 identity-spec =
     tie.close
-    (tie.spec Inv-loop μ-loop (λ c. search over-kit) (λ c κs. search over-kit) (λ c. search over-kit) (λ c. search over-kit)
-    (λ c. search over-kit)  -- loop-again
-    (λ c. search over-kit)
-    (λ c. search over-kit))  -- returns
+    (tie.spec Inv-loop μ-loop (λ c. search matrix-kit) (λ c κs. search matrix-kit) (λ c. search matrix-kit) (λ c. search matrix-kit)
+    (λ c. search matrix-kit)  -- loop-again
+    (λ c. search matrix-kit)
+    (λ c. search matrix-kit))  -- returns

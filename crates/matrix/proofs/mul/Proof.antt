@@ -1,5 +1,7 @@
-use Rattle.folds.specs.Kit.{_≡_, _-_, _≤_, length, fold, over-kit}
-use Rattle.matrix.specs.Matrix.{cellDot, putColumn, mul}
+use Rattle.folds.specs.Kit.{_≡_, _-_, _≤_, length, fold}
+use Rattle.columns.specs.Columns.{putColumn}
+use Rattle.columns.specs.Laws.{matrix-kit}
+use Rattle.matrix.specs.Matrix.{cellDot, mul}
 use Rattle.matrix.proofs.mul.Statement.{statement}
 use Rattle.matrix.proofs.mul.Tie as tie
 
@@ -10,10 +12,10 @@ abbrev μ-loop : tie.MeasureT-loop
 μ-loop a n p b m c₀ j₀ c j = m - j
 
 pub mul-spec : {M : Type 1} → statement M
-unfolding mul putColumn
+unfolding mul
 mul-spec =
     tie.close
-    (tie.spec Inv-loop μ-loop (λ c. search over-kit) (λ c κs. search over-kit) (λ c. search over-kit) (λ c. search over-kit)
-    (λ c. search over-kit)  -- loop-again
-    (λ c. search over-kit)
-    (λ c. search over-kit))  -- returns
+    (tie.spec Inv-loop μ-loop (λ c. search matrix-kit) (λ c κs. search matrix-kit) (λ c. search matrix-kit) (λ c. search matrix-kit)
+    (λ c. search matrix-kit)  -- loop-again
+    (λ c. search matrix-kit)
+    (λ c. search matrix-kit))  -- returns

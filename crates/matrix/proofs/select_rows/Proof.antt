@@ -1,5 +1,7 @@
-use Rattle.folds.specs.Kit.{_≡_, _-_, _≤_, length, fold, over-kit}
-use Rattle.matrix.specs.Matrix.{cell, index, putColumn, selectRows}
+use Rattle.folds.specs.Kit.{_≡_, _-_, _≤_, length, fold}
+use Rattle.columns.specs.Columns.{cell, putColumn}
+use Rattle.columns.specs.Laws.{matrix-kit}
+use Rattle.matrix.specs.Matrix.{index, selectRows}
 use Rattle.matrix.proofs.select_rows.Statement.{statement}
 use Rattle.matrix.proofs.select_rows.Tie as tie
 
@@ -10,10 +12,10 @@ abbrev μ-loop : tie.MeasureT-loop
 μ-loop a n m list k b₀ j₀ b j = m - j
 
 pub select-rows-spec : {M : Type 1} → statement M
-unfolding selectRows putColumn
+unfolding selectRows
 select-rows-spec =
     tie.close
-    (tie.spec Inv-loop μ-loop (λ c. search over-kit) (λ c κs. search over-kit) (λ c. search over-kit) (λ c. search over-kit)
-    (λ c. search over-kit)  -- loop-again
-    (λ c. search over-kit)
-    (λ c. search over-kit))  -- returns
+    (tie.spec Inv-loop μ-loop (λ c. search matrix-kit) (λ c κs. search matrix-kit) (λ c. search matrix-kit) (λ c. search matrix-kit)
+    (λ c. search matrix-kit)  -- loop-again
+    (λ c. search matrix-kit)
+    (λ c. search matrix-kit))  -- returns

@@ -1,6 +1,7 @@
 use Rattle.folds.specs.Kit.{_≡_, _-_, _≤_, arith, fold, fold-call, kit}
 use Rattle.arith.specs.Float.{fadd, f0}
-use Rattle.matrix.specs.Matrix.{cell, trace}
+use Rattle.columns.specs.Columns.{cell}
+use Rattle.matrix.specs.Matrix.{trace}
 use Rattle.matrix.proofs.trace.Statement.{statement}
 use Rattle.matrix.proofs.trace.Tie as tie
 

@@ -1,5 +1,5 @@
 use Rattle.folds.specs.Kit.{sym, _∙_}
-use Rattle.active.specs.Laws.{minimizedOf-minimized}
+use Rattle.minimum.specs.Laws.{minimizedOf-minimized}
 use Rattle.multiplier.specs.Search.{doubleStep}
 use Rattle.multiplier.proofs.double_step.Statement.{statement}
 use Rattle.multiplier.proofs.double_step.Tie as tie

@@ -1,4 +1,4 @@
-use Rattle.folds.specs.Kit.{_≤_, sym, _∙_, arith, length, needs}
+use Rattle.folds.specs.Kit.{_≤_, refl, sym, _∙_, arith, length, needs}
 use lib.Seq.{length-take-le}
 use Rattle.folds.specs.Tab.{taken-over}
 use Rattle.vector.specs.Laws.{length-divided}
@@ -105,12 +105,13 @@ returns : tie.Need-returns
 returns c =
     let s = solved-at (c .before .before) in
     let d = div-at s in
-    by-from _ _ _ _ _ _ _ _ (columns-at d .column-scales .ensures)
+    by-from _ _ _ _ _ _ (start (columns-at d) .args .noise) _ (columns-at d .column-scales .ensures)
     (taken-over _ _ (length-divided _ _ _) (divided-at d .divided .ensures))
     (d .before .before .divided2 .ensures)
     (taken-over _ _ (length-columnsDivided _ _ _ _) (scaled-at d .scaled-e .ensures))
     (d .div .ensures)
     (sym (solution-answer _ _ _) ∙ s .solve-scaled .ensures)
+    refl
     (c .rescaled .ensures)
 
 pub solve-by-in-spec : {M : Type 1} → statement M

@@ -3,7 +3,7 @@ use native.Mathlib.Nat.{le-of-eq, le-trans}
 use lib.Seq.{length-take-le}
 use Rattle.folds.specs.Cell.{area}
 use Rattle.sizes.specs.Sizes as Sizes
-use Rattle.factor_update.specs.Laws.{listed-few}
+use Rattle.variable_set.specs.Laws.{listed-few}
 use Rattle.free_list.specs.Laws.{free-few, listed, taken-entries, ends-taken}
 use Rattle.pass.specs.State.{made-beside}
 use Rattle.pass.specs.Laws.{free-from}

@@ -5,6 +5,7 @@ use lib.Seq.{length-take-le}
 use Rattle.folds.specs.Tab.{taken-over}
 use Rattle.free_list.specs.FreeList.{freeIndices}
 use Rattle.free_list.specs.Laws.{free-few}
+use Rattle.freeing.specs.Freeing.{noneFree}
 use Rattle.pass.specs.State.{made-beside}
 use Rattle.pass.specs.Laws.{lead-few, rest-is, split-rising, split-free, pass-without, pass-with}
 use Rattle.pass.proofs.pass.Statement.{statement}
@@ -36,23 +37,26 @@ listed : (c : tie.After-free-indices) →
     c .free-indices .result ≡ length (take (c .free-indices .result) (c .free-indices .last .1 .1 .0))
 listed c = sym (length-take-le _ _ (fits c))
 
+none : (c : tie.After-none-free) → noneFree (c .before .split-slacks .result .now) ≡ c .none-free .result
+none c = sym (c .none-free .ensures)
+
 -- ---- the calls
 returns : tie.Need-returns
 returns c =
-    let d = c .before .before in
+    let d = c .before .before .before in
     let i = listed-at d in
     let s = start i in
     let p = s .pre in
     let e = c .without-free .ensures in (
       made-beside _ _ _ _
           ∙ pass-without _ _ _ _ _ _ _ _ _ _ _ (d .split-slacks .result .now) _ _ _ (s .args .b .now) (free i) (d .split-slacks .ensures)
-          (c .before .if1 .taken) (e .0 _ (p .0 .columns)),
+          (none (c .before .before) ∙ c .before .if1 .taken) (e .0 _ (p .0 .columns)),
       (e .1, p .5),
     )
 
 free-pass-requires : tie.Need-free-pass-requires
 free-pass-requires c κs =
-    let d = other c .before in
+    let d = other c .before .before in
     let i = listed-at d in
     let p = start i .pre in
     let l = d .split-slacks .ensures in (
@@ -72,9 +76,9 @@ returns-2 : tie.Need-returns-2
 returns-2 c =
     let w = called c in
     let o = other (w .before) in
-    let d = o .before in
+    let d = o .before .before in
     let e = w .free-pass .ensures in (
-      pass-with _ _ _ _ _ _ _ _ _ _ _ _ _ _ _ _ (free (listed-at d)) (d .split-slacks .ensures) (o .if1 .left)
+      pass-with _ _ _ _ _ _ _ _ _ _ _ _ _ _ _ _ (free (listed-at d)) (d .split-slacks .ensures) (none (o .before) ∙ o .if1 .left)
           (rest-is (length (d .split-slacks .result .now)) _) (e .0),
       e .1,
     )
@@ -88,11 +92,12 @@ pass-spec =
     (λ c. fits (c .before))  -- array-share-prefix-indices
     (λ c. listed (c .before .before))  -- slice-aggregate-indices
     (λ c κs. search needs)  -- split-slacks-requires
+    (λ c κs. search needs)  -- none-free-requires
     (λ c κs. search needs)  -- without-free-requires
     returns
     (λ c. search needs)  -- mul-free-pass
-    (λ c. lead-few _ _ (c .before .split-slacks .ensures))  -- sub-free-pass
-    (λ c. lead-few _ _ (c .before .split-slacks .ensures))  -- part-free-pass-start
+    (λ c. lead-few _ _ (c .before .before .split-slacks .ensures))  -- sub-free-pass
+    (λ c. lead-few _ _ (c .before .before .split-slacks .ensures))  -- part-free-pass-start
     (λ c. search needs)  -- part-free-pass-end
     free-pass-requires
     (λ c. search needs)  -- room

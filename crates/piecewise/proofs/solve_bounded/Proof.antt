@@ -2,7 +2,8 @@ use Rattle.folds.specs.Kit.{_≤_, sym, arith, needs}
 use lib.Seq.{length-take-le}
 use Rattle.sizes.specs.Sizes as Sizes
 use Rattle.vector.specs.Laws.{take-zeros}
-use Rattle.piecewise.specs.Laws.{too-many, refused-wrongShape}
+use Rattle.outputs.specs.Piecewise.{refused-wrongShape}
+use Rattle.piecewise.specs.Laws.{too-many}
 use Rattle.piecewise.proofs.solve_bounded.Statement.{statement}
 use Rattle.piecewise.proofs.solve_bounded.Tie as tie
 

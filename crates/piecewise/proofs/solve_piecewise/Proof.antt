@@ -1,7 +1,8 @@
 use Rattle.folds.specs.Kit.{sym, _∙_, arith, needs}
-use Rattle.active.specs.Laws.{minimizedOf-minimized}
+use Rattle.minimum.specs.Laws.{minimizedOf-minimized}
 use Rattle.quadratic.specs.Laws.{shape}
-use Rattle.piecewise.specs.Laws.{wrong-shape, blank-bound, engine-answers, refused-wrongShape, refused-blankBound}
+use Rattle.outputs.specs.Piecewise.{refused-wrongShape, refused-blankBound}
+use Rattle.piecewise.specs.Laws.{wrong-shape, blank-bound, engine-answers}
 use Rattle.piecewise.proofs.solve_piecewise.Statement.{statement}
 use Rattle.piecewise.proofs.solve_piecewise.Tie as tie
 
@@ -15,14 +16,14 @@ solve-shaped-requires c κs =
     let t = c .before .before in
     let s = shape _ _ _ _ _ _ _ _ _ _ _ _ _ _ _ _ _ (sym (t .before .shaped .ensures) ∙ t .if1 .taken) in (s .holds, s .q-holds, s .e-holds)
 
-add-write : tie.Need-add-write
-add-write c =
+add-write-minimum : tie.Need-add-write-minimum
+add-write-minimum c =
     let t = c .before .before .before .before .before in
     let s = shape _ _ _ _ _ _ _ _ _ _ _ _ _ _ _ _ _ (sym (t .before .shaped .ensures) ∙ t .if1 .taken) .holds in
     omega (arith, s .equalities, s .rows)
 
-write-requires : tie.Need-write-requires
-write-requires c κs =
+write-minimum-requires : tie.Need-write-minimum-requires
+write-minimum-requires c κs =
     let t = c .before .before .before .before .before .before .before .before in
     let s = shape _ _ _ _ _ _ _ _ _ _ _ _ _ _ _ _ _ (sym (t .before .shaped .ensures) ∙ t .if1 .taken) in
     (s .holds .originals, omega (arith, s .holds .equalities, s .holds .rows), s .x-long, s .multipliers-long)
@@ -41,7 +42,7 @@ returns-2 c =
     rw (engine-answers _ _ _ _ _ _ _ _ _ _ _ _ _ _ _ _ _ (sym (t .before .shaped .ensures) ∙ t .if1 .taken)
     (sym (s .before .before .blank .ensures) ∙ s .before .if2 .left)
     (sym (minimizedOf-minimized _ _ _) ∙ s .solve-shaped .ensures))
-    (c .before .before .before .before .write .ensures)
+    (c .before .before .before .before .write-minimum .ensures)
 
 returns-3 : tie.Need-returns-3
 returns-3 c = rw (wrong-shape _ _ _ _ _ _ _ _ _ _ _ _ _ _ _ _ _ (sym (c .before .shaped .ensures) ∙ c .if1 .left)) (refused-wrongShape _ _ _)
@@ -54,8 +55,8 @@ solve-piecewise-spec =
     blank-requires
     returns
     solve-shaped-requires
-    add-write
-    write-requires
+    add-write-minimum
+    write-minimum-requires
     (λ c. search needs)  -- same-length
     (λ c. search needs)  -- same-length-2
     returns-2

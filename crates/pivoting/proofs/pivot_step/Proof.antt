@@ -1,8 +1,8 @@
 use Rattle.folds.specs.Kit.{_≡_, arith, length, needs, kit, sym, _∙_, pick}
 use lib.Seq.{length-take-le}
 use Rattle.sizes.specs.Sizes as Sizes
+use Rattle.pivot_choice.specs.Laws.{found-below}
 use Rattle.pivoting.specs.Pivoting.{stateOf, pivotStep, choose}
-use Rattle.pivoting.specs.Laws.{found-below}
 use Rattle.pivoting.proofs.pivot_step.Statement.{statement}
 use Rattle.pivoting.proofs.pivot_step.Tie as tie
 

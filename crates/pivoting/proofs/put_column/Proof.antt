@@ -1,7 +1,7 @@
 use Rattle.folds.specs.Kit.{_≡_, _-_, _≤_, arith, length, kit}
 use Rattle.arith.specs.Float.{at}
-use Rattle.matrix.specs.Matrix.{putColumn}
-use Rattle.matrix.specs.Laws.{column-kit, column-call}
+use Rattle.columns.specs.Columns.{putColumn}
+use Rattle.columns.specs.Laws.{column-kit, column-call}
 use Rattle.pivoting.proofs.put_column.Statement.{statement}
 use Rattle.pivoting.proofs.put_column.Tie as tie
 

@@ -1,6 +1,6 @@
 use Rattle.folds.specs.Kit.{arith, kit}
 use Rattle.pivoting.specs.Pivoting.{removePart}
-use Rattle.matrix.specs.Laws.{length-column}
+use Rattle.columns.specs.Laws.{length-column}
 use Rattle.pivoting.proofs.remove_part.Statement.{statement}
 use Rattle.pivoting.proofs.remove_part.Tie as tie
 

@@ -1,8 +1,8 @@
 use Rattle.folds.specs.Kit.{ℕ, _≡_, _-_, _≤_, arith, length, kit}
 use lib.Ieee.{Float}
 use Rattle.arith.specs.Float.{at, fsub, fmul}
-use Rattle.matrix.specs.Matrix.{putColumn, cell}
-use Rattle.matrix.specs.Laws.{column-kit, column-edit}
+use Rattle.columns.specs.Columns.{putColumn, cell}
+use Rattle.columns.specs.Laws.{column-kit, column-edit}
 use Rattle.pivoting.specs.Pivoting.{subColumn}
 use Rattle.pivoting.proofs.sub_column.Statement.{statement}
 use Rattle.pivoting.proofs.sub_column.Tie as tie

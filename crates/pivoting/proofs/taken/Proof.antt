@@ -1,7 +1,7 @@
 use Rattle.folds.specs.Kit.{_≡_, arith, length, needs, kit, sym}
 use lib.Seq.{length-take-le}
 use Rattle.sizes.specs.Sizes as Sizes
-use Rattle.matrix.specs.Laws.{length-column}
+use Rattle.columns.specs.Laws.{length-column}
 use Rattle.pivoting.specs.Pivoting.{stateOf, taken, withBasis}
 use Rattle.pivoting.proofs.taken.Statement.{statement}
 use Rattle.pivoting.proofs.taken.Tie as tie

@@ -2,7 +2,7 @@ use Rattle.folds.specs.Kit.{_≡_, _≤_, sym, arith, needs}
 use Rattle.folds.specs.Tab.{taken-over}
 use native.Mathlib.Nat.{le-refl}
 use lib.ListN.{take}
-use Rattle.factor_update.specs.Laws.{listed-few}
+use Rattle.variable_set.specs.Laws.{listed-few}
 use Rattle.probe.specs.Hooks.{allBut, but-rises}
 use Rattle.probe.proofs.changed.Statement.{statement}
 use Rattle.probe.proofs.changed.Tie as tie

@@ -1,7 +1,7 @@
 use Rattle.folds.specs.Kit.{_≡_, _-_, _≤_, arith, set, fold, fold-call, over-tab, taken-tab, kit}
-use Rattle.vector.specs.Vector.{norm}
-use Rattle.matrix.specs.Matrix.{column}
-use Rattle.matrix.specs.Laws.{length-column}
+use Rattle.reductions.specs.Reductions.{norm}
+use Rattle.columns.specs.Columns.{column}
+use Rattle.columns.specs.Laws.{length-column}
 use Rattle.range_space.specs.Factored.{lengths}
 use Rattle.range_space.proofs.lengths.Statement.{statement}
 use Rattle.range_space.proofs.lengths.Tie as tie

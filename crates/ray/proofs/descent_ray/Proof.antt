@@ -1,6 +1,6 @@
 use Rattle.folds.specs.Kit.{_∙_, needs}
+use Rattle.scaled_ray.specs.Laws.{ray-none}
 use Rattle.ray.specs.Ray.{withScale, descentRay}
-use Rattle.ray.specs.Laws.{ray-none}
 use Rattle.ray.proofs.descent_ray.Statement.{statement}
 use Rattle.ray.proofs.descent_ray.Tie as tie
 

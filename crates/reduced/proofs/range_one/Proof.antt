@@ -1,7 +1,7 @@
 use Rattle.folds.specs.Kit.{_∙_, arith, length, needs}
 use Rattle.folds.specs.Tab.{over-whole}
 use Rattle.vector.specs.Laws.{length-addScaled}
-use Rattle.matrix.specs.Laws.{length-column}
+use Rattle.columns.specs.Laws.{length-column}
 use Rattle.reduced.specs.Reduced.{rangeOne}
 use Rattle.reduced.proofs.range_one.Statement.{statement}
 use Rattle.reduced.proofs.range_one.Tie as tie

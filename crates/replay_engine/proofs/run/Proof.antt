@@ -26,7 +26,4 @@ run-spec =
     (λ c. search needs)  -- array-share-prefix-b
     (λ c. sym (length-take-le _ _ (omega arith)))  -- slice-aggregate-run-bounds-4
     (λ c κs. search needs)  -- run-bounds-requires
-    (λ c κs. search needs)  -- byte-requires
-    (λ c κs. search needs)  -- one-if-requires
-    (λ c κs. search needs)  -- wrapping-add-usize-requires
     (λ c. search needs))  -- returns

@@ -5,8 +5,8 @@ use Prim.Native.Nat.{_≤_}
 use lib.ListN.{take}
 use Rattle.folds.specs.Tab.{taken-over}
 use Rattle.folds.specs.Marks.{rising, rising-few}
-use Rattle.factor_update.specs.Factor.{Rising}
-use Rattle.factor_update.specs.Laws.{rising-chosen}
+use Rattle.variable_set.specs.Rising.{Rising}
+use Rattle.variable_set.specs.Laws.{rising-chosen}
 use borrow.Author.Needs.{needs}
 use Rattle.replay_factor.proofs.update.Statement.{statement}
 use Rattle.replay_factor.proofs.update.Tie as tie

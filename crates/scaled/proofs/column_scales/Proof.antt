@@ -1,6 +1,6 @@
 use Rattle.folds.specs.Kit.{needs}
 use lib.Ieee.{nan}
-use Rattle.matrix.specs.Laws.{length-columnsAmax}
+use Rattle.columns.specs.Laws.{length-columnsAmax}
 use Rattle.folds.specs.Tab.{taken-edit}
 use Rattle.scaled.specs.Scaled.{above0Or1, above0Or1Each, columnScales}
 use Rattle.scaled.proofs.column_scales.Statement.{statement}

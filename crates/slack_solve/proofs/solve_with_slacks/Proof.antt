@@ -2,7 +2,7 @@ use Rattle.folds.specs.Kit.{_+_, _≤_, sym, _∙_, arith, length}
 use lib.Seq.{length-take-le}
 use Rattle.folds.specs.Tab.{over-whole}
 use Rattle.units.specs.Laws.{length-unitsK, length-unitsE}
-use Rattle.active.specs.Laws.{minimizedOf-minimized}
+use Rattle.minimum.specs.Laws.{minimizedOf-minimized}
 use Rattle.slack_solve.specs.Laws.{with-slacks-from}
 use Rattle.slack_solve.proofs.solve_with_slacks.Statement.{statement}
 use Rattle.slack_solve.proofs.solve_with_slacks.Tie as tie

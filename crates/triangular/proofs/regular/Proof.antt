@@ -2,7 +2,7 @@ use Rattle.folds.specs.Kit.{_≡_, true, _-_, _≤_, needs, all, alls}
 use mathlib.Core.Bool.{not}
 use lib.Ieee.{eq}
 use Rattle.arith.specs.Float.{f0}
-use Rattle.matrix.specs.Matrix.{cell}
+use Rattle.columns.specs.Columns.{cell}
 use Rattle.folds.specs.Fold.{all-stop, all-turn}
 use Rattle.triangular.specs.Triangular.{regular}
 use Rattle.triangular.proofs.regular.Statement.{statement}

@@ -1,6 +1,6 @@
 use Rattle.folds.specs.Kit.{_≡_, _-_, _≤_, true, sym, _∙_, arith, length, needs, alls}
 use Rattle.folds.specs.Fold.{all-stop, all-turn}
-use Rattle.matrix.specs.Laws.{length-column}
+use Rattle.columns.specs.Laws.{length-column}
 use Rattle.units.specs.Units.{checked}
 use Rattle.units.proofs.checked.Statement.{statement}
 use Rattle.units.proofs.checked.Tie as tie

@@ -1,6 +1,6 @@
 use Rattle.folds.specs.Kit.{needs}
 use lib.Ieee.{nan}
-use Rattle.matrix.specs.Laws.{length-columnsAmax}
+use Rattle.columns.specs.Laws.{length-columnsAmax}
 use Rattle.folds.specs.Tab.{taken-edit}
 use Rattle.units.specs.Units.{scaleOr1, scalesOr1, columnScales}
 use Rattle.units.proofs.column_scales.Statement.{statement}

@@ -1,6 +1,7 @@
 use Rattle.folds.specs.Kit.{ap, _∙_, kit}
 use Rattle.vector.specs.Laws.{over-copy}
-use Rattle.update.specs.Update.{factorOf, join}
+use Rattle.rank_one.specs.RankOne.{factorOf}
+use Rattle.update.specs.Update.{join}
 use Rattle.update.proofs.join.Statement.{statement}
 use Rattle.update.proofs.join.Tie as tie
 

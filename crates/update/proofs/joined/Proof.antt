@@ -1,6 +1,6 @@
 use Rattle.folds.specs.Kit.{_≡_, _+_, _-_, _≤_, length, fold}
-use Rattle.matrix.specs.Matrix.{putColumn}
-use Rattle.matrix.specs.Laws.{matrix-kit}
+use Rattle.columns.specs.Columns.{putColumn}
+use Rattle.columns.specs.Laws.{matrix-kit}
 use Rattle.update.specs.Update.{joinedEntry, joined}
 use Rattle.update.proofs.joined.Statement.{statement}
 use Rattle.update.proofs.joined.Tie as tie

@@ -1,5 +1,6 @@
 use Rattle.folds.specs.Kit.{ap, kit}
-use Rattle.update.specs.Update.{factorOf, leave}
+use Rattle.rank_one.specs.RankOne.{factorOf}
+use Rattle.update.specs.Update.{leave}
 use Rattle.update.proofs.leave.Statement.{statement}
 use Rattle.update.proofs.leave.Tie as tie
 

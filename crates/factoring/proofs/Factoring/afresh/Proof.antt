@@ -1,6 +1,6 @@
 use Rattle.folds.specs.Kit.{pick, kit}
 use native.Mathlib.Nat.{le-refl}
-use Rattle.factor_update.specs.Laws.{listed-below}
+use Rattle.variable_set.specs.Laws.{listed-below}
 use Rattle.factoring.specs.Kept.{afresh, kept, keptOf}
 use Rattle.factoring.proofs.Factoring.afresh.Statement.{statement}
 use Rattle.factoring.proofs.Factoring.afresh.Tie as tie

@@ -1,7 +1,7 @@
 use Rattle.folds.specs.Kit.{_≡_, _≤_, arith, length, kit}
 use Rattle.folds.specs.Cell.{area}
 use native.Mathlib.Nat.{le-refl}
-use Rattle.factor_update.specs.Laws.{listed-few, listed-below, rising-wider}
+use Rattle.variable_set.specs.Laws.{listed-few, listed-below, rising-wider}
 use Rattle.factoring.specs.Kept.{Factor, factor, update, settled, keptOf}
 use Rattle.factoring.specs.Laws.{good-rises, update-good}
 use Rattle.factoring.proofs.Factoring.update.Statement.{statement}

@@ -1,5 +1,5 @@
 use native.Mathlib.Nat.{le-refl}
-use Rattle.factor_update.specs.Laws.{listed-below, marks-rising}
+use Rattle.variable_set.specs.Laws.{listed-below, marks-rising}
 use Rattle.factoring.specs.Kept.{withFactor, optionOf, keptOf}
 use Rattle.factoring.proofs.Factoring.with_factor.Statement.{statement}
 use Rattle.factoring.proofs.Factoring.with_factor.Tie as tie

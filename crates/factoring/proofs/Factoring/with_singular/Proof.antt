@@ -1,5 +1,5 @@
 use native.Mathlib.Nat.{le-refl}
-use Rattle.factor_update.specs.Laws.{listed-below, marks-rising}
+use Rattle.variable_set.specs.Laws.{listed-below, marks-rising}
 use Rattle.factoring.specs.Kept.{withSingular, optionOf, keptOf}
 use Rattle.factoring.proofs.Factoring.with_singular.Statement.{statement}
 use Rattle.factoring.proofs.Factoring.with_singular.Tie as tie

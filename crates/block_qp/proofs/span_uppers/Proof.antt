@@ -1,9 +1,0 @@
-use borrow.Author.Needs.{needs}
-use Rattle.block_qp.specs.Numbers.{endOf}
-use Rattle.block_qp.specs.Qp.{spanUppers}
-use Rattle.block_qp.proofs.span_uppers.Statement.{statement}
-use Rattle.block_qp.proofs.span_uppers.Tie as tie
-
-pub span-uppers-spec : {M : Type 1} → statement M
-unfolding spanUppers endOf
-span-uppers-spec = tie.close (tie.spec (λ c κs. search needs) (λ c. search needs) (λ c. c .before .before .each-span .ensures))

@@ -1,0 +1,5 @@
+pub mod Rows
+pub mod Ends
+pub mod Entries
+pub mod Laws
+pub mod Exact

@@ -1,0 +1,2 @@
+pub mod BlockedStep
+pub mod Laws

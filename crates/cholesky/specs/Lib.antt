@@ -1,0 +1,4 @@
+pub mod Cholesky
+pub mod Laws
+pub mod Pivots
+pub mod Known

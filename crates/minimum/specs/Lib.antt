@@ -1,0 +1,4 @@
+pub mod Minimized
+pub mod Capped
+pub mod Counted
+pub mod Laws

@@ -1,0 +1,2 @@
+pub mod NullPart
+pub mod Laws

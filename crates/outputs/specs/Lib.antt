@@ -1,0 +1,3 @@
+pub mod Kkt
+pub mod Piecewise
+pub mod Capped

@@ -1,0 +1,2 @@
+pub mod PivotChoice
+pub mod Laws

@@ -1,0 +1,3 @@
+pub mod RankOne
+pub mod Laws
+pub mod Known

@@ -1,0 +1,2 @@
+pub mod ReleaseAt
+pub mod Laws

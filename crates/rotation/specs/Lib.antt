@@ -1,0 +1,4 @@
+pub mod Rotation
+pub mod Laws
+pub mod Turned
+pub mod Known

@@ -1,0 +1,2 @@
+pub mod ScaledKkt
+pub mod Laws

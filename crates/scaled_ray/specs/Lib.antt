@@ -1,0 +1,2 @@
+pub mod ScaledRay
+pub mod Laws

@@ -1,0 +1,4 @@
+pub mod Step
+pub mod Laws
+pub mod Ends
+pub mod Sized

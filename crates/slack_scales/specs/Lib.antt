@@ -1,0 +1,4 @@
+pub mod SlackScales
+pub mod Chain
+pub mod Laws
+pub mod Known

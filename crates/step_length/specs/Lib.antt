@@ -1,0 +1,3 @@
+pub mod StepLength
+pub mod Laws
+pub mod Known

@@ -1,0 +1,5 @@
+pub mod Rising
+pub mod Joining
+pub mod Marked
+pub mod Laws
+pub mod Known
