@@ -5,67 +5,67 @@ use mathlib.Core.List.{List}
 use Prim.Native.Nat.{ℕ, ◌+◌, ◌-◌, ◌<◌, ◌≤◌}
 use lib.Ieee.{Float}
 use lib.ListN.{length}
-use Rattle.folds.specs.Run.{more, run, run-all, run_more, run-done, run-spent}
+use Rattle.folds.specs.Run.{more, run, run-all, run-more, run-done, run-spent}
 use Rattle.segments.specs.declared.Segments.{Segments}
 use Rattle.iterate.specs.Problem.{Problem, problem, Room}
 use Rattle.iterate.specs.declared.Iterate.{Iterate}
-use Rattle.factoring.specs.Kept.{Kept, new, keptOf}
+use Rattle.factoring.specs.Kept.{Kept, new, kept_of}
 use Rattle.pass.specs.declared.Made.{Made}
-use Rattle.pass.specs.State.{State, state, made_of, made-beside}
+use Rattle.pass.specs.State.{State, state, made_of, made_beside}
 use Rattle.pass.specs.Pass.{pass}
 use Rattle.minimum.specs.declared.Minimum as Declared
 use Rattle.minimum.specs.declared.SolveVerdict.TheVariants.{NotConverged}
-use Rattle.minimum.specs.Minimized.{Minimized, minimizedOf}
-use Rattle.minimum.specs.Counted.{goesOn, Ends, budget}
-use Rattle.minimum.specs.Laws.{minimizedOf-notConverged}
+use Rattle.minimum.specs.Minimized.{Minimized, minimized_of}
+use Rattle.minimum.specs.Counted.{goes_on, Ends, budget}
+use Rattle.minimum.specs.Laws.{minimized_of-not_converged}
 use Rattle.active.specs.Active.{step, spent, passes}
 use Rattle.active.specs.Laws.{counted-more, counted-done}
 
-unfoldable pub Left : Problem → (segments : List Segments) (fixed : List Bool) (qAmax linear : Float) (made : ℕ) (s : State) → Minimized
-Left (problem originals n m q c e b) segments fixed qAmax linear made s =
-    run (step (problem originals n m q c e b) segments fixed qAmax linear) spent (budget n - made) made (more s)
+unfoldable pub Left : Problem → (segments : List Segments) (fixed : List Bool) (q_amax linear : Float) (made : ℕ) (s : State) → Minimized
+Left (problem originals n m q c e b) segments fixed q_amax linear made s =
+    run (step (problem originals n m q c e b) segments fixed q_amax linear) spent (budget n - made) made (more s)
 
-module _ (originals n m : ℕ) (q c e b : List Float) (segments : List Segments) (fixed : List Bool) (qAmax linear : Float) where
+module _ (originals n m : ℕ) (q c e b : List Float) (segments : List Segments) (fixed : List Bool) (q_amax linear : Float) where
   abbrev p : Problem
   p = problem originals n m q c e b
 
-  pub all_left : {f : Kept} (i : Iterate) (l : List Float) → f ≡ new →
-      Left p segments fixed qAmax linear 0 (state i f l) ≡ passes p segments fixed qAmax linear i l
+  pub all-left : {f : Kept} (i : Iterate) (l : List Float) → f ≡ new →
+      Left p segments fixed q_amax linear 0 (state i f l) ≡ passes p segments fixed q_amax linear i l
   unfolding Left passes
-  all_left i l e = rw e (run-all _ _ (budget n) (state i new l))
+  all-left i l e = rw e (run-all _ _ (budget n) (state i new l))
 
-  module _ (s : State) (made : ℕ) {r : Minimized} (left : Left p segments fixed qAmax linear made s ≡ r) where
-    pub all-spent : (a : Declared.Minimum) → budget n ≤ made → a.verdict ≡ NotConverged → minimizedOf n m a ≡ r
+  module _ (s : State) (made : ℕ) {r : Minimized} (left : Left p segments fixed q_amax linear made s ≡ r) where
+    pub all-spent : (a : Declared.Minimum) → budget n ≤ made → a.verdict ≡ NotConverged → minimized_of n m a ≡ r
     unfolding Left
-    all-spent a h v = minimizedOf-notConverged n m a v ∙ run-spent _ _ (budget n) made s h ∙ left
+    all-spent a h v = minimized_of-not_converged n m a v ∙ run-spent _ _ (budget n) made s h ∙ left
 
     -- after a pass
-    module _ (t : Made) (l : List Float) (under : made < budget n) (gave : made_of n m t l ≡ pass p segments fixed qAmax linear s) where
-      pub again : goesOn t.passed.ending ≡ true →
-          Left p segments fixed qAmax linear (made + 1) (state t.passed.iterate (keptOf t.factoring) l) ≡ r
+    module _ (t : Made) (l : List Float) (under : made < budget n) (gave : made_of n m t l ≡ pass p segments fixed q_amax linear s) where
+      pub again : goes_on t.passed.ending ≡ true →
+          Left p segments fixed q_amax linear (made + 1) (state t.passed.iterate (kept_of t.factoring) l) ≡ r
       unfolding Left step
-      again g = run_more _ _ (budget n) made s _ under (rw (← gave, made-beside) (counted-more t.passed (made + 1) n m _ l g)) ∙ left
+      again g = run-more _ _ (budget n) made s _ under (rw (← gave, made_beside) (counted-more t.passed (made + 1) n m _ l g)) ∙ left
 
-      pub ended : (a : Declared.Minimum) → Ends t.passed made a → minimizedOf n m a ≡ r
+      pub ended : (a : Declared.Minimum) → Ends t.passed made a → minimized_of n m a ≡ r
       unfolding Left step
-      ended a f = run-done _ _ (budget n) made s under (rw (← gave, made-beside) (counted-done (made + 1) _ l _ (f n m))) ∙ left
+      ended a f = run-done _ _ (budget n) made s under (rw (← gave, made_beside) (counted-done (made + 1) _ l _ (f n m))) ∙ left
 
 -- ---- the slices that each pass is lent keep their lengths
-pub record Same (room qFree eFree gram l room₀ qFree₀ eFree₀ gram₀ l₀ : List Float) : Type 0 where
+pub record Same (room q_free e_free gram l room₀ qFree₀ eFree₀ gram₀ l₀ : List Float) : Type 0 where
   pub of_room : length room ≡ length room₀
-  pub of-q : length qFree ≡ length qFree₀
-  pub of-e : length eFree ≡ length eFree₀
-  pub of-gram : length gram ≡ length gram₀
-  pub of-l : length l ≡ length l₀
+  pub of_q : length q_free ≡ length qFree₀
+  pub of_e : length e_free ≡ length eFree₀
+  pub of_gram : length gram ≡ length gram₀
+  pub of_l : length l ≡ length l₀
 
-pub same-room : {originals n m : ℕ} {room qFree eFree gram l room₀ qFree₀ eFree₀ gram₀ l₀ : List Float} →
-    Same room qFree eFree gram l room₀ qFree₀ eFree₀ gram₀ l₀ → Room originals n m room₀ qFree₀ eFree₀ gram₀ →
-    Room originals n m room qFree eFree gram
+pub same-room : {originals n m : ℕ} {room q_free e_free gram l room₀ qFree₀ eFree₀ gram₀ l₀ : List Float} →
+    Same room q_free e_free gram l room₀ qFree₀ eFree₀ gram₀ l₀ → Room originals n m room₀ qFree₀ eFree₀ gram₀ →
+    Room originals n m room q_free e_free gram
 same-room s r =
     record {
       rows = rw s.of_room r.rows;
       columns = rw s.of_room r.columns;
-      q-free = rw s.of-q r.q-free;
-      e-free = rw s.of-e r.e-free;
-      gram-room = rw s.of-gram r.gram-room;
+      q_free_holds = rw s.of_q r.q_free_holds;
+      e_free_holds = rw s.of_e r.e_free_holds;
+      gram_room = rw s.of_gram r.gram_room;
     }

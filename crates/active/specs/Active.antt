@@ -7,19 +7,19 @@ use Rattle.iterate.specs.Problem.{Problem, problem}
 use Rattle.iterate.specs.declared.Iterate.{Iterate}
 use Rattle.pass.specs.State.{State, state}
 use Rattle.pass.specs.Pass.{pass}
-use Rattle.minimum.specs.Minimized.{Minimized, notConverged}
+use Rattle.minimum.specs.Minimized.{Minimized, not_converged}
 use Rattle.minimum.specs.Counted.{counted, budget}
 
 -- a pass, as one of the run's
-unfoldable pub step : Problem → (segments : List Segments) (fixed : List Bool) (qAmax linear : Float) (made : ℕ) (s : State) → Pass State Minimized
-step p segments fixed qAmax linear made s = counted (made + 1) (pass p segments fixed qAmax linear s)
+unfoldable pub step : Problem → (segments : List Segments) (fixed : List Bool) (q_amax linear : Float) (made : ℕ) (s : State) → Pass State Minimized
+step p segments fixed q_amax linear made s = counted (made + 1) (pass p segments fixed q_amax linear s)
 
 -- ---- the run: `for _ in 0..100 + 20 * n`
 -- `Err(CutupError::NotConverged)`
 abbrev pub spent : (made : ℕ) (s : State) → Minimized
-spent made s = notConverged
+spent made s = not_converged
 
 -- with no factor yet, which is to stand over the start of l
-unfoldable pub passes : Problem → (segments : List Segments) (fixed : List Bool) (qAmax linear : Float) (i : Iterate) (l : List Float) → Minimized
-passes (problem originals n m q c e b) segments fixed qAmax linear i l =
-    run (step (problem originals n m q c e b) segments fixed qAmax linear) spent (budget n) 0 (more (state i new l))
+unfoldable pub passes : Problem → (segments : List Segments) (fixed : List Bool) (q_amax linear : Float) (i : Iterate) (l : List Float) → Minimized
+passes (problem originals n m q c e b) segments fixed q_amax linear i l =
+    run (step (problem originals n m q c e b) segments fixed q_amax linear) spent (budget n) 0 (more (state i new l))

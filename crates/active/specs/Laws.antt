@@ -7,20 +7,20 @@ use Rattle.folds.specs.Run.{Pass, more, done, run}
 use Rattle.factoring.specs.Kept.{Kept, new}
 use Rattle.segments.specs.declared.Segments.{Segments}
 use Rattle.iterate.specs.Problem.{Problem, problem}
-use Rattle.iterate.specs.Iterate.{Result, passedOf}
+use Rattle.iterate.specs.Iterate.{Result, passed_of}
 use Rattle.iterate.specs.Laws.{passed-more}
 use Rattle.iterate.specs.declared.Iterate.{Iterate}
 use Rattle.iterate.specs.declared.Passed.{Passed}
 use Rattle.pass.specs.State.{State, state, beside, beside-more, beside-done}
 use Rattle.pass.specs.Pass.{pass}
 use Rattle.minimum.specs.Minimized.{Minimized}
-use Rattle.minimum.specs.Counted.{counted, goesOn, budget}
+use Rattle.minimum.specs.Counted.{counted, goes_on, budget}
 use Rattle.minimum.specs.Laws.{goes-more, counted-goes, counted-ends, Within, counted-within}
 use Rattle.active.specs.Active.{step, spent, passes}
 
 -- ---- a pass goes on, or ends in an answer, whatever it leaves of the factor
-pub counted-more : (p : Passed) (passes n m : ℕ) (f : Kept) (l : List Float) → goesOn p.ending ≡ true →
-    counted passes (beside f l (passedOf n m p)) ≡ more (state p.iterate f l)
+pub counted-more : (p : Passed) (passes n m : ℕ) (f : Kept) (l : List Float) → goes_on p.ending ≡ true →
+    counted passes (beside f l (passed_of n m p)) ≡ more (state p.iterate f l)
 counted-more p passes n m f l h = rw (passed-more n m p (goes-more p.ending h), beside-more, counted-goes)
 
 pub counted-done : (passes : ℕ) (f : Kept) (l : List Float) {a : Minimized} (p : Pass Iterate Result) →
@@ -29,19 +29,19 @@ counted-done passes f l (more i) e = absurd (let k = counted-goes passes i in le
 counted-done passes f l (done r) e = rw (beside-done f l r) (counted-ends passes r e)
 
 -- ---- the number of passes is from 1 to the budget
-module _ (p : Problem) (segments : List Segments) (fixed : List Bool) (qAmax linear : Float) (limit : ℕ) where
+module _ (p : Problem) (segments : List Segments) (fixed : List Bool) (q_amax linear : Float) (limit : ℕ) where
   run-within : (left made : ℕ) (r : Pass State Minimized) → left + made ≤ limit → Run.Kept (λ _. Unit {0}) (Within limit) r →
-      Within limit (run (step p segments fixed qAmax linear) spent left made r)
+      Within limit (run (step p segments fixed q_amax linear) spent left made r)
   unfolding run step Run.Kept
   run-within zero made (done a) h k = k
   run-within zero made (more s) h k = tt
   run-within (suc left) made (done a) h k = k
   run-within (suc left) made (more s) h k =
-      run-within left (made + 1) (counted (made + 1) (pass p segments fixed qAmax linear s)) (omega arith)
-      (counted-within limit made (pass p segments fixed qAmax linear s) (omega arith))
+      run-within left (made + 1) (counted (made + 1) (pass p segments fixed q_amax linear s)) (omega arith)
+      (counted-within limit made (pass p segments fixed q_amax linear s) (omega arith))
 
-pub passes-within : (originals n m : ℕ) (q c e b : List Float) (segments : List Segments) (fixed : List Bool) (qAmax linear : Float) (i : Iterate)
-    (l : List Float) → Within (budget n) (passes (problem originals n m q c e b) segments fixed qAmax linear i l)
+pub passes-within : (originals n m : ℕ) (q c e b : List Float) (segments : List Segments) (fixed : List Bool) (q_amax linear : Float) (i : Iterate)
+    (l : List Float) → Within (budget n) (passes (problem originals n m q c e b) segments fixed q_amax linear i l)
 unfolding passes Run.Kept
-passes-within originals n m q c e b segments fixed qAmax linear i l =
-    run-within (problem originals n m q c e b) segments fixed qAmax linear (budget n) (budget n) 0 (more (state i new l)) (omega arith) tt
+passes-within originals n m q c e b segments fixed q_amax linear i l =
+    run-within (problem originals n m q c e b) segments fixed q_amax linear (budget n) (budget n) 0 (more (state i new l)) (omega arith) tt

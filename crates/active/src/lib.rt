@@ -4,7 +4,7 @@ ghost use Rattle.std.specs.Prelude.{◌≡◌, ◌≤◌, ◌*◌, length};
 ghost use Rattle.segments.specs.Segments.{AllCut};
 ghost use Rattle.iterate.specs.Problem.{problem, Shaped, Room};
 ghost use Rattle.iterate.specs.Iterate.{Consistent};
-ghost use Rattle.minimum.specs.Minimized.{minimizedOf};
+ghost use Rattle.minimum.specs.Minimized.{minimized_of};
 ghost use Rattle.active.specs.Active as Definition;
 
 use factoring::Factoring;
@@ -36,7 +36,7 @@ pub fn passes(
         × (length fixed.now ≡ counts.n)
         × Room counts.originals counts.n counts.m room.old q_free.old e_free.old gram.old
         × (counts.originals * counts.originals ≤ length l.old) }
-    ensures { minimizedOf counts.n counts.m result
+    ensures { minimized_of counts.n counts.m result
         ≡ Definition.passes (problem counts.originals counts.n counts.m q.now c.now e.now b.now)
         segments fixed.now magnitudes.q magnitudes.linear iterate l.old }
 {

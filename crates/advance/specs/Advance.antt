@@ -8,7 +8,7 @@ use Rattle.blocking.specs.declared.Board.{Board}
 use Rattle.stepping.specs.Stepping.{settle}
 use Rattle.releasing.specs.declared.Outcome.{Outcome}
 use Rattle.releasing.specs.declared.Outcome.TheVariants.{Enter, Answer, NotConverged}
-use Rattle.iterate.specs.Iterate.{Result, optimal, notConverged, withBoard}
+use Rattle.iterate.specs.Iterate.{Result, optimal, not_converged, with_board}
 use Rattle.iterate.specs.declared.Iterate.{Iterate}
 
 -- ---- the whole step
@@ -27,6 +27,6 @@ entered i segment board = record { x = board.x; state = set board.state i (recor
 
 -- `match entering { Some(&(_, i, segment)) => { ..; released = Some(i); }, None if wrong.is_empty() => return Ok(x), None => return Err(..) }`
 unfoldable pub decided : (n : ℕ) → Iterate → Board → (multipliers : List Float) → Outcome → Pass Iterate Result
-decided n i board multipliers (Enter v segment) = more (withBoard i (entered v segment board) (One v))
+decided n i board multipliers (Enter v segment) = more (with_board i (entered v segment board) (One v))
 decided n i board multipliers Answer = done (optimal (take n board.x) multipliers)
-decided n i board multipliers NotConverged = done notConverged
+decided n i board multipliers NotConverged = done not_converged

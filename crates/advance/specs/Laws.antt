@@ -1,7 +1,7 @@
 -- Laws of the definitions: where the step is made whole, and where a variable is released, each variable stays placed.
 use Rattle.std.specs.Prelude.{List, ℕ, ◌<◌, length, Float}
 use Rattle.folds.specs.Fold.{Out, out}
-use Rattle.segments.specs.Segments.{last, segmentsAt, AllPlaced}
+use Rattle.segments.specs.Segments.{last, segments_at, AllPlaced}
 use Rattle.segments.specs.Laws.{set-placed}
 use Rattle.segments.specs.declared.State.TheVariants.{Free}
 use Rattle.segments.specs.declared.Segments.{Segments}
@@ -19,6 +19,6 @@ settled-placed n segments indices target lower upper tolerance board placed = go
     go (out moved x) = unfold cleared in placed
 
 pub entered-placed : (n : ℕ) (segments : List Segments) (i segment : ℕ) (board : Board) → i < length board.state →
-    segment < last (segmentsAt segments i) → AllPlaced n segments board.state → AllPlaced n segments (entered i segment board).state
+    segment < last (segments_at segments i) → AllPlaced n segments board.state → AllPlaced n segments (entered i segment board).state
 unfolding entered
 entered-placed n segments i segment board l h placed = set-placed n segments board.state i (Free segment) l h placed

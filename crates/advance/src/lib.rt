@@ -3,7 +3,7 @@ ghost use Rattle.std.specs.Prelude.{◌≡◌, ◌≤◌, ◌<◌, length, take}
 ghost use Rattle.sizes.specs.Sizes as Sizes;
 ghost use Rattle.vector.specs.Vector.{Below};
 ghost use Rattle.segments.specs.Segments.{AllCut, AllPlaced};
-ghost use Rattle.iterate.specs.Iterate.{passedOf, Consistent};
+ghost use Rattle.iterate.specs.Iterate.{passed_of, Consistent};
 ghost use Rattle.release_at.specs.ReleaseAt as ReleaseAt;
 ghost use Rattle.release_at.specs.ReleaseAt.{Shape};
 ghost use Rattle.advance.specs.Advance as Advance;
@@ -76,7 +76,7 @@ pub fn decided(
         × AllPlaced counts.n segments board.state
         × Consistent counts.n segments iterate
         × (counts.n ≤ length fixed.now) }
-    ensures result_value { passedOf counts.n counts.m result
+    ensures result_value { passed_of counts.n counts.m result
         ≡ Advance.decided counts.n iterate board (take counts.m multipliers)
         (ReleaseAt.release counts.originals counts.n counts.m q.now c.now e.now segments
         fixed.now magnitudes.q magnitudes.linear (take counts.m multipliers) board) }

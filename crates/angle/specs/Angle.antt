@@ -17,9 +17,9 @@ unfoldable pub tangent : Float → Float
 tangent tau = pick (lt huge (abs tau)) (fdiv fhalf tau) (fdiv (signum tau) (fadd (abs tau) (sqrt (fadd (fmul tau tau) f1))))
 
 -- `let c = 1.0 / (t * t + 1.0).sqrt()`, `let s = t * c`
-unfoldable pub turnBy : Float → Turn
-turnBy t = let c = fdiv f1 (sqrt (fadd (fmul t t) f1)) in record { c = c; s = fmul t c }
+unfoldable pub turn_by : Float → Turn
+turn_by t = let c = fdiv f1 (sqrt (fadd (fmul t t) f1)) in record { c = c; s = fmul t c }
 
 -- `let tau = (a[(q, q)] - a[(p, p)]) / (2.0 * apq)`
 unfoldable pub angle : (n p q : ℕ) (a : List Float) → Turn
-angle n p q a = turnBy (tangent (fdiv (fsub (cell a n q q) (cell a n p p)) (fmul f2 (cell a n p q))))
+angle n p q a = turn_by (tangent (fdiv (fsub (cell a n q q) (cell a n p p)) (fmul f2 (cell a n p q))))

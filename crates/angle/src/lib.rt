@@ -21,7 +21,7 @@ fn tangent(tau: f64) -> f64
 }
 
 fn turn_by(t: f64) -> Turn
-    ensures { result ≡ Angle.turnBy t }
+    ensures { result ≡ Angle.turn_by t }
 {
     let c = 1.0 / root::sqrt(t * t + 1.0);
     Turn { c: c, s: t * c }

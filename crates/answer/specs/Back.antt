@@ -9,10 +9,10 @@ use Rattle.std.proofs.Math.ListN.{length-append}
 use Rattle.std.proofs.Math.Seq.{take_at, drop_at}
 use Rattle.std.specs.Int.Signed.{mag}
 use Rattle.folds.specs.Fold.{both, both-on, pick, pick_true}
-use Rattle.ints.specs.Diff.{is-neg, minus_is}
+use Rattle.ints.specs.Diff.{is_neg, minus-is}
 use Rattle.format.specs.Read.{signed}
-use Rattle.format.specs.Signed.{signed-small, signed-large}
-use Rattle.answer.specs.Code.{code_lt}
+use Rattle.format.specs.Signed.{signed-small, signed_large}
+use Rattle.answer.specs.Code.{code-lt}
 use Rattle.answer.specs.Pasted.{length-bytes, in8-wide, length-times, length-prices}
 use Rattle.answer.specs.File.{Answer, bytes, code, in4, in8, each, field, file}
 
@@ -22,9 +22,9 @@ of_bytes [] = 0
 of_bytes (b ∷ bs) = b + 256 * of_bytes bs
 
 -- n signed numbers of k bytes each; `half` is the first number that stands for a negative one
-unfoldable pub signedNumbers : (half k n : ℕ) (s : List ℕ) → List ℤ
-signedNumbers half k zero s = []
-signedNumbers half k (suc n) s = signed half (of_bytes (take k s)) ∷ signedNumbers half k n (drop k s)
+unfoldable pub signed_numbers : (half k n : ℕ) (s : List ℕ) → List ℤ
+signed_numbers half k zero s = []
+signed_numbers half k (suc n) s = signed half (of_bytes (take k s)) ∷ signed_numbers half k n (drop k s)
 
 -- ---- the field that s begins with: its tag, its body, and what follows
 abbrev pub tag_of : List ℕ → ℕ
@@ -40,8 +40,8 @@ unfoldable pub rest : List ℕ → List ℕ
 rest s = drop (3 + length_of s) s
 
 -- a whole field of this tag, whose length passes the test, as one of whole numbers of k bytes does
-unfoldable pub isField : (tag : ℕ) (ok : ℕ → Bool) (s : List ℕ) → Bool
-isField tag ok s = both (eqb (tag_of s) tag) (both (leb (3 + length_of s) (length s)) (ok (length_of s)))
+unfoldable pub is_field : (tag : ℕ) (ok : ℕ → Bool) (s : List ℕ) → Bool
+is_field tag ok s = both (eqb (tag_of s) tag) (both (leb (3 + length_of s) (length s)) (ok (length_of s)))
 
 unfoldable pub whole_of : (k n : ℕ) → Bool
 whole_of k n = eqb (n / k * k) n
@@ -51,24 +51,24 @@ pub data Found : Type 0 where
   answer : Answer → Found
   none : Found
 
-unfoldable pub isAnswer : List ℕ → Bool
-isAnswer s =
-    both (isField 17 (whole_of 4) s)
-    (both (isField 18 (whole_of 8) (rest s))
-    (both (isField 19 (eqb 8) (rest (rest s)))
-    (both (isField 20 (eqb 2) (rest (rest (rest s))))
+unfoldable pub is_answer : List ℕ → Bool
+is_answer s =
+    both (is_field 17 (whole_of 4) s)
+    (both (is_field 18 (whole_of 8) (rest s))
+    (both (is_field 19 (eqb 8) (rest (rest s)))
+    (both (is_field 20 (eqb 2) (rest (rest (rest s))))
     (eqb (length (rest (rest (rest (rest s))))) 0))))
 
 abbrev pub answer_in : List ℕ → Answer
 answer_in s = record {
-  times = signedNumbers 2147483648 4 (length (body_of s) / 4) (body_of s);
-  prices = signedNumbers 9223372036854775808 8 (length (body_of (rest s)) / 8) (body_of (rest s));
+  times = signed_numbers 2147483648 4 (length (body_of s) / 4) (body_of s);
+  prices = signed_numbers 9223372036854775808 8 (length (body_of (rest s)) / 8) (body_of (rest s));
   gap = signed 9223372036854775808 (of_bytes (body_of (rest (rest s))));
   passes = of_bytes (body_of (rest (rest (rest s))));
 }
 
-unfoldable pub readAnswer : List ℕ → Found
-readAnswer s = pick (isAnswer s) (answer (answer_in s)) none
+unfoldable pub read_answer : List ℕ → Found
+read_answer s = pick (is_answer s) (answer (answer_in s)) none
 
 -- ---- what is written is read back
 pub record Small (half : ℕ) (x : List ℤ) : Type 0 where
@@ -77,8 +77,8 @@ pub record Small (half : ℕ) (x : List ℤ) : Type 0 where
 pub record Sized (a : Answer) : Type 0 where
   pub times : length a.times ≤ 32
   pub prices : length a.prices ≤ 25
-  pub each-time : Small 2147483648 a.times
-  pub each-price : Small 9223372036854775808 a.prices
+  pub each_time : Small 2147483648 a.times
+  pub each_price : Small 9223372036854775808 a.prices
   pub gap : mag a.gap < 9223372036854775808
   pub passes : a.passes < 65536
 
@@ -99,26 +99,26 @@ unfolding code
 signed-code half (pos n) h = signed-small half n h
 signed-code half (negsuc n) h =
     let m : half ≤ half + half - suc n = omega arith in
-    signed-large half (half + half - suc n) m
-    ∙ minus_is (half + half - suc n) (half + half)
-    ∙ is-neg (half + half - suc n) (half + half) n (omega arith)
+    signed_large half (half + half - suc n) m
+    ∙ minus-is (half + half - suc n) (half + half)
+    ∙ is_neg (half + half - suc n) (half + half) n (omega arith)
 
-ofBytes-code : (half k : ℕ) (z : ℤ) → half + half ≤ top k → mag z < half → signed half (of_bytes (bytes k (code half z))) ≡ z
-ofBytes-code half k z t h = ap (signed half) (of_bytes_bytes k (code half z) (omega (arith, code_lt half z h))) ∙ signed-code half z h
+of_bytes-code : (half k : ℕ) (z : ℤ) → half + half ≤ top k → mag z < half → signed half (of_bytes (bytes k (code half z))) ≡ z
+of_bytes-code half k z t h = ap (signed half) (of_bytes_bytes k (code half z) (omega (arith, code-lt half z h))) ∙ signed-code half z h
 
 module _ (half k : ℕ) (t : half + half ≤ top k) where
   abbrev coded : ℤ → List ℕ
   coded z = bytes k (code half z)
 
-  signedNumbers-each : (x : List ℤ) → Small half x → signedNumbers half k (length x) (each coded x) ≡ x
-  unfolding each signedNumbers
-  signedNumbers-each [] S = refl
-  signedNumbers-each (z ∷ x) S =
+  signed_numbers-each : (x : List ℤ) → Small half x → signed_numbers half k (length x) (each coded x) ≡ x
+  unfolding each signed_numbers
+  signed_numbers-each [] S = refl
+  signed_numbers-each (z ∷ x) S =
       ap₂ ◌∷◌
       (ap (λ (l : List ℕ). signed half (of_bytes l)) (take_at (coded z) (each coded x) k (length-bytes k (code half z)))
-      ∙ ofBytes-code half k z t (S.fits 0 (omega arith)))
-      (ap (signedNumbers half k (length x)) (drop_at (coded z) (each coded x) k (length-bytes k (code half z)))
-      ∙ signedNumbers-each x (record { fits = λ j l. S.fits (suc j) (suc-le-suc l) }))
+      ∙ of_bytes-code half k z t (S.fits 0 (omega arith)))
+      (ap (signed_numbers half k (length x)) (drop_at (coded z) (each coded x) k (length-bytes k (code half z)))
+      ∙ signed_numbers-each x (record { fits = λ j l. S.fits (suc j) (suc-le-suc l) }))
 
 -- a field in front of r
 module _ (t : ℕ) (b r : List ℕ) (small : t < 256) (short : length b < 65536) where
@@ -145,8 +145,8 @@ module _ (t : ℕ) (b r : List ℕ) (small : t < 256) (short : length b < 65536)
   unfolding field bytes
   whole_back = omega (arith, length_back, length-append b r)
 
-  field_back : (ok : ℕ → Bool) → ok (length b) ≡ true → isField t ok s ≡ true
-  unfolding isField
+  field_back : (ok : ℕ → Bool) → ok (length b) ≡ true → is_field t ok s ≡ true
+  unfolding is_field
   field_back ok e = sym (both-on (eq-eqb _ _ tag_back) (both-on (le-leb _ _ whole_back) (sym (ap ok length_back ∙ e))))
 
 -- n pieces of k bytes
@@ -201,15 +201,15 @@ module _ (a : Answer) (S : Sized a) where
   whole₂ : whole_of 8 (length prices) ≡ true
   whole₂ = ap (whole_of 8) (length-prices a.prices) ∙ pieces 8 (length a.prices) (lit≤ tt)
 
-  is-answer : isAnswer (file a) ≡ true
-  unfolding isAnswer file
+  is-answer : is_answer (file a) ≡ true
+  unfolding is_answer file
   is-answer =
       sym (both-on (field_back 17 times f₁₈ (lit≤ tt) short₁ (whole_of 4) whole₁)
-      (both-on (ap (isField 18 (whole_of 8)) rest₁ ∙ field_back 18 prices f₁₉ (lit≤ tt) short₂ (whole_of 8) whole₂)
+      (both-on (ap (is_field 18 (whole_of 8)) rest₁ ∙ field_back 18 prices f₁₉ (lit≤ tt) short₂ (whole_of 8) whole₂)
       (both-on
-      (ap (isField 19 (eqb 8)) rest₂ ∙ field_back 19 (in8 a.gap) f₂₀ (lit≤ tt) short₃ (eqb 8) (ap (eqb 8) (in8-wide a.gap)))
+      (ap (is_field 19 (eqb 8)) rest₂ ∙ field_back 19 (in8 a.gap) f₂₀ (lit≤ tt) short₃ (eqb 8) (ap (eqb 8) (in8-wide a.gap)))
       (both-on
-      (ap (isField 20 (eqb 2)) rest₃
+      (ap (is_field 20 (eqb 2)) rest₃
       ∙ field_back 20 (bytes 2 a.passes) [] (lit≤ tt) short₄ (eqb 2) (ap (eqb 2) (length-bytes 2 a.passes)))
       (sym (ap (λ (l : List ℕ). eqb (length l) 0) rest₄))))))
 
@@ -217,26 +217,26 @@ module _ (a : Answer) (S : Sized a) where
   unfolding file top
   answer-is = λ i. record { times = t i; prices = p i; gap = g i; passes = n i }
     where
-      t : signedNumbers 2147483648 4 (length (body_of (file a)) / 4) (body_of (file a)) ≡ a.times
-      t = ap (λ (b : List ℕ). signedNumbers 2147483648 4 (length b / 4) b) (body_back 17 times f₁₈ (lit≤ tt) short₁)
-          ∙ ap (λ (m : ℕ). signedNumbers 2147483648 4 m times)
+      t : signed_numbers 2147483648 4 (length (body_of (file a)) / 4) (body_of (file a)) ≡ a.times
+      t = ap (λ (b : List ℕ). signed_numbers 2147483648 4 (length b / 4) b) (body_back 17 times f₁₈ (lit≤ tt) short₁)
+          ∙ ap (λ (m : ℕ). signed_numbers 2147483648 4 m times)
           (ap (λ (m : ℕ). m / 4) (length-times a.times) ∙ mul-div_right (length a.times) (lit≤ tt))
-          ∙ signedNumbers-each 2147483648 4 (lit≤ tt) a.times S.each-time
+          ∙ signed_numbers-each 2147483648 4 (lit≤ tt) a.times S.each_time
 
-      p : signedNumbers 9223372036854775808 8 (length (body_of (rest (file a))) / 8) (body_of (rest (file a))) ≡ a.prices
-      p = ap (λ (b : List ℕ). signedNumbers 9223372036854775808 8 (length b / 8) b) (ap body_of rest₁ ∙ body_back 18 prices f₁₉ (lit≤ tt) short₂)
-          ∙ ap (λ (m : ℕ). signedNumbers 9223372036854775808 8 m prices)
+      p : signed_numbers 9223372036854775808 8 (length (body_of (rest (file a))) / 8) (body_of (rest (file a))) ≡ a.prices
+      p = ap (λ (b : List ℕ). signed_numbers 9223372036854775808 8 (length b / 8) b) (ap body_of rest₁ ∙ body_back 18 prices f₁₉ (lit≤ tt) short₂)
+          ∙ ap (λ (m : ℕ). signed_numbers 9223372036854775808 8 m prices)
           (ap (λ (m : ℕ). m / 8) (length-prices a.prices) ∙ mul-div_right (length a.prices) (lit≤ tt))
-          ∙ signedNumbers-each 9223372036854775808 8 (lit≤ tt) a.prices S.each-price
+          ∙ signed_numbers-each 9223372036854775808 8 (lit≤ tt) a.prices S.each_price
 
       g : signed 9223372036854775808 (of_bytes (body_of (rest (rest (file a))))) ≡ a.gap
       g = ap (λ (b : List ℕ). signed 9223372036854775808 (of_bytes b)) (ap body_of rest₂ ∙ body_back 19 (in8 a.gap) f₂₀ (lit≤ tt) short₃)
-          ∙ ofBytes-code 9223372036854775808 8 a.gap (lit≤ tt) S.gap
+          ∙ of_bytes-code 9223372036854775808 8 a.gap (lit≤ tt) S.gap
 
       n : of_bytes (body_of (rest (rest (rest (file a))))) ≡ a.passes
       n = ap of_bytes (ap body_of rest₃ ∙ body_back 20 (bytes 2 a.passes) [] (lit≤ tt) short₄) ∙ of_bytes_bytes 2 a.passes S.passes
 
   -- what the writer writes is read back as the same times, prices, gap and passes
-  pub read_back : readAnswer (file a) ≡ answer a
-  unfolding readAnswer
-  read_back = sym (pick_true (isAnswer (file a)) none is-answer (ap answer (sym answer-is)))
+  pub read_back : read_answer (file a) ≡ answer a
+  unfolding read_answer
+  read_back = sym (pick_true (is_answer (file a)) none is-answer (ap answer (sym answer-is)))

@@ -58,5 +58,5 @@ pub record Written (a : Answer) (o : List ℕ) (r : ℕ) (exit : List ℕ) : Typ
   pub slice : exit ≡ written a o
 
 -- the file's length, from its counts
-unfoldable pub fileSize : (times prices : ℕ) → ℕ
-fileSize times prices = 22 + 4 * times + 8 * prices
+unfoldable pub file_size : (times prices : ℕ) → ℕ
+file_size times prices = 22 + 4 * times + 8 * prices

@@ -9,8 +9,8 @@ use Rattle.std.proofs.Math.ListN.{length-append}
 use Rattle.std.proofs.Math.Seq.{paste, paste-zero, paste-suc, take-length, take-suc}
 use Rattle.std.proofs.lemmas.List.Edits.{length-paste, take-paste, drop-paste}
 use borrow.Author.Tests.{le-leb, lt-leb}
-use Rattle.folds.specs.Fold.{over, fold, fold-turn, pick_true, pick-false}
-use Rattle.answer.specs.File.{Answer, bytes, each, in4, in8, field, file, fileSize, code, refusal, written, Written}
+use Rattle.folds.specs.Fold.{over, fold, fold_turn, pick_true, pick_false}
+use Rattle.answer.specs.File.{Answer, bytes, each, in4, in8, field, file, file_size, code, refusal, written, Written}
 
 -- o with s written over it from `at` on
 unfoldable pub pasted : (at : ℕ) (bytes slice : List ℕ) → List ℕ
@@ -50,32 +50,32 @@ pub pasted-two : {l m : List ℕ} (at n : ℕ) (s t o : List ℕ) → at + lengt
 pasted-two at n s t o e h f g = g ∙ ap (pasted n t) f ∙ pasted-append at n s t o e h
 
 -- from the front
-pub pasted-front : (s o : List ℕ) → pasted 0 s o ≡ over s o
+pub pasted_front : (s o : List ℕ) → pasted 0 s o ≡ over s o
 unfolding pasted over
-pasted-front s o = let z : 0 + length s ≡ length s = omega arith in rw (take-length s, z)
+pasted_front s o = let z : 0 + length s ≡ length s = omega arith in rw (take-length s, z)
 
 -- ---- the bytes of n: after j of them n is divided by 256 j times
 unfoldable pub shifted : (j n : ℕ) → ℕ
 shifted j n = fold j (λ i m. m / 256) n
 
-shifted_next : (j n : ℕ) → shifted (suc j) n ≡ shifted j (n / 256)
+shifted-next : (j n : ℕ) → shifted (suc j) n ≡ shifted j (n / 256)
 unfolding shifted fold
-shifted_next zero n = refl
-shifted_next (suc j) n = ap (λ (m : ℕ). m / 256) (shifted_next j n)
+shifted-next zero n = refl
+shifted-next (suc j) n = ap (λ (m : ℕ). m / 256) (shifted-next j n)
 
-pub shifted_none : (n : ℕ) → n ≡ shifted 0 n
+pub shifted-none : (n : ℕ) → n ≡ shifted 0 n
 unfolding shifted fold
-shifted_none n = refl
+shifted-none n = refl
 
-pub shifted-turn : {m : ℕ} (j n : ℕ) → m ≡ shifted j n → m / 256 ≡ shifted (j + 1) n
+pub shifted_turn : {m : ℕ} (j n : ℕ) → m ≡ shifted j n → m / 256 ≡ shifted (j + 1) n
 unfolding shifted
-shifted-turn j n e = fold-turn j (λ i m. m / 256) n e
+shifted_turn j n e = fold_turn j (λ i m. m / 256) n e
 
-byte-is : (k n j : ℕ) → j < k → get_or (bytes k n) j 0 ≡ shifted j n % 256
+byte_is : (k n j : ℕ) → j < k → get_or (bytes k n) j 0 ≡ shifted j n % 256
 unfolding bytes
-byte-is zero n j h = absurd (not-suc-le-zero h)
-byte-is (suc k) n zero h = ap (λ (m : ℕ). m % 256) (shifted_none n)
-byte-is (suc k) n (suc j) h = byte-is k (n / 256) j (le_of_suc-le-suc h) ∙ ap (λ (m : ℕ). m % 256) (sym (shifted_next j n))
+byte_is zero n j h = absurd (not-suc-le-zero h)
+byte_is (suc k) n zero h = ap (λ (m : ℕ). m % 256) (shifted-none n)
+byte_is (suc k) n (suc j) h = byte_is k (n / 256) j (le_of_suc-le-suc h) ∙ ap (λ (m : ℕ). m % 256) (sym (shifted-next j n))
 
 pub length-bytes : (k n : ℕ) → length (bytes k n) ≡ k
 unfolding bytes
@@ -83,16 +83,16 @@ length-bytes zero n = refl
 length-bytes (suc k) n = ap suc (length-bytes k (n / 256))
 
 -- a turn of the loop that writes them
-pub bytes-turn : (o : List ℕ) (at k n j m : ℕ) → at + k ≤ length o → j < k → m ≡ shifted j n
+pub bytes_turn : (o : List ℕ) (at k n j m : ℕ) → at + k ≤ length o → j < k → m ≡ shifted j n
     → set (paste o at (bytes k n) j) (at + j) (m % 256) ≡ paste o at (bytes k n) (j + 1)
-bytes-turn o at k n j m room h e =
-    ap (set (paste o at (bytes k n) j) (at + j)) (ap (λ (i : ℕ). i % 256) e ∙ sym (byte-is k n j h))
+bytes_turn o at k n j m room h e =
+    ap (set (paste o at (bytes k n) j) (at + j)) (ap (λ (i : ℕ). i % 256) e ∙ sym (byte_is k n j h))
     ∙ paste-suc o at (bytes k n) j 0 (omega arith) (omega (arith, length-bytes k n))
     ∙ ap (paste o at (bytes k n)) (sym (add-one j))
 
-pub bytes-end : {l : List ℕ} (o : List ℕ) (at k n j : ℕ) → j ≤ k → k ≤ j → l ≡ paste o at (bytes k n) j → l ≡ pasted at (bytes k n) o
+pub bytes_end : {l : List ℕ} (o : List ℕ) (at k n j : ℕ) → j ≤ k → k ≤ j → l ≡ paste o at (bytes k n) j → l ≡ pasted at (bytes k n) o
 unfolding pasted
-bytes-end o at k n j p q e = let z : j ≡ length (bytes k n) = omega (arith, length-bytes k n) in e ∙ ap (paste o at (bytes k n)) z
+bytes_end o at k n j p q e = let z : j ≡ length (bytes k n) = omega (arith, length-bytes k n) in e ∙ ap (paste o at (bytes k n)) z
 
 -- ---- the numbers of a list
 module _ (f : ℤ → List ℕ) (k : ℕ) (wide : (z : ℤ) → length (f z) ≡ k) where
@@ -101,20 +101,20 @@ module _ (f : ℤ → List ℕ) (k : ℕ) (wide : (z : ℤ) → length (f z) ≡
   length-each [] = omega arith
   length-each (z ∷ x) = length-append (f z) (each f x) ∙ omega (arith, wide z, length-each x, mul-suc k (length x))
 
-  each_append : (x y : List ℤ) → each f (x ++ y) ≡ each f x ++ each f y
+  each-append : (x y : List ℤ) → each f (x ++ y) ≡ each f x ++ each f y
   unfolding each
-  each_append [] y = refl
-  each_append (z ∷ x) y = ap (λ (l : List ℕ). f z ++ l) (each_append x y) ∙ sym (append_assoc (f z) (each f x) (each f y))
+  each-append [] y = refl
+  each-append (z ∷ x) y = ap (λ (l : List ℕ). f z ++ l) (each-append x y) ∙ sym (append_assoc (f z) (each f x) (each f y))
 
   -- one more of them
-  each_next : (x : List ℤ) (i : ℕ) → i < length x → each f (take (i + 1) x) ≡ each f (take i x) ++ f (get_or x i (pos 0))
+  each-next : (x : List ℤ) (i : ℕ) → i < length x → each f (take (i + 1) x) ≡ each f (take i x) ++ f (get_or x i (pos 0))
   unfolding each
-  each_next x i h = rw (add-one i, take-suc x i (pos 0) h, each_append (take i x) (get_or x i (pos 0) ∷ []), append-nil)
+  each-next x i h = rw (add-one i, take-suc x i (pos 0) h, each-append (take i x) (get_or x i (pos 0) ∷ []), append-nil)
 
   -- the loop that writes them: at its start, in a turn, in which b is written, and where it is left
-  pub each_none : (at : ℕ) (x : List ℤ) (o : List ℕ) → o ≡ pasted at (each f (take 0 x)) o
+  pub each-none : (at : ℕ) (x : List ℤ) (o : List ℕ) → o ≡ pasted at (each f (take 0 x)) o
   unfolding each
-  each_none at x o = pasted-none at o
+  each-none at x o = pasted-none at o
 
   pub each_turn : {b l l' : List ℕ} (at i : ℕ) (x : List ℤ) (o : List ℕ) → i < length x → at + k * i + k ≤ length o
       → b ≡ f (get_or x i (pos 0)) → l ≡ pasted at (each f (take i x)) o → l' ≡ pasted (at + k * i) b l → l' ≡ pasted at (each f (take (i + 1) x)) o
@@ -123,10 +123,10 @@ module _ (f : ℤ → List ℕ) (k : ℕ) (wide : (z : ℤ) → length (f z) ≡
       e
       ∙ ap₂ (pasted (at + k * i)) p q
       ∙ pasted-append at (at + k * i) (each f (take i x)) (f (get_or x i (pos 0))) o (omega arith) (omega (arith, wide (get_or x i (pos 0))))
-      ∙ ap (λ (s : List ℕ). pasted at s o) (sym (each_next x i h))
+      ∙ ap (λ (s : List ℕ). pasted at s o) (sym (each-next x i h))
 
-  pub each-end : {l : List ℕ} (at i : ℕ) (x : List ℤ) (o : List ℕ) → length x ≤ i → l ≡ pasted at (each f (take i x)) o → l ≡ pasted at (each f x) o
-  each-end at i x o h e = e ∙ ap (λ (s : List ℤ). pasted at (each f s) o) (take_all i x h)
+  pub each_end : {l : List ℕ} (at i : ℕ) (x : List ℤ) (o : List ℕ) → length x ≤ i → l ≡ pasted at (each f (take i x)) o → l ≡ pasted at (each f x) o
+  each_end at i x o h e = e ∙ ap (λ (s : List ℤ). pasted at (each f s) o) (take_all i x h)
 
 -- ---- a field: its header, then its body
 pub length-field : (tag : ℕ) (b : List ℕ) → length (field tag b) ≡ 3 + length b
@@ -159,8 +159,8 @@ length-times x = length-each in4 4 in4-wide x
 pub length-prices : (p : List ℤ) → length (each in8 p) ≡ 8 * length p
 length-prices p = length-each in8 8 in8-wide p
 
-pub length-file : (a : Answer) → length (file a) ≡ fileSize (length a.times) (length a.prices)
-unfolding file fileSize
+pub length-file : (a : Answer) → length (file a) ≡ file_size (length a.times) (length a.prices)
+unfolding file file_size
 length-file a =
     length-append (field 17 (each in4 a.times)) _
     ∙ omega (
@@ -179,11 +179,11 @@ length-file a =
 
 -- ---- the whole file, field by field
 module _ (a : Answer) (o : List ℕ) where
-  pub too_small : length o < fileSize (length a.times) (length a.prices) → Written a o 8 o
+  pub too_small : length o < file_size (length a.times) (length a.prices) → Written a o 8 o
   unfolding refusal written
   too_small h =
       let e = lt-leb (length (file a)) (length o) (omega (arith, length-file a)) in
-      record { result = pick-false _ _ e refl; slice = pick-false _ _ e refl }
+      record { result = pick_false _ _ e refl; slice = pick_false _ _ e refl }
 
   abbrev f₁₇ : List ℕ
   f₁₇ = field 17 (each in4 a.times)
@@ -210,11 +210,11 @@ module _ (a : Answer) (o : List ℕ) where
   l₂₀ = length-field 20 (bytes 2 a.passes) ∙ ap (λ (k : ℕ). 3 + k) (length-bytes 2 a.passes)
 
   -- where the fields begin, and what the slice holds after each
-  module _ (p q r : ℕ) (room : fileSize (length a.times) (length a.prices) ≤ length o) (e : 3 + 4 * length a.times ≡ p)
+  module _ (p q r : ℕ) (room : file_size (length a.times) (length a.prices) ≤ length o) (e : 3 + 4 * length a.times ≡ p)
       (f : p + 3 + 8 * length a.prices ≡ q) (g : q + 11 ≡ r) where
     all-pasted : {k₁ k₂ k₃ k₄ : List ℕ} → k₁ ≡ pasted 0 f₁₇ o → k₂ ≡ pasted p f₁₈ k₁ → k₃ ≡ pasted q f₁₉ k₂ → k₄ ≡ pasted r f₂₀ k₃
         → k₄ ≡ pasted 0 (file a) o
-    unfolding file fileSize
+    unfolding file file_size
     all-pasted h₁ h₂ h₃ h₄ =
         let j₂ = length-append f₁₇ f₁₈ in
         let j₃ = length-append (f₁₇ ++ f₁₈) f₁₉ in
@@ -228,7 +228,7 @@ module _ (a : Answer) (o : List ℕ) where
     unfolding refusal written
     file-written h₁ h₂ h₃ h₄ =
         let e = le-leb (length (file a)) (length o) (omega (arith, length-file a)) in
-        record { result = pick_true _ _ e refl; slice = pick_true _ _ e (all-pasted h₁ h₂ h₃ h₄ ∙ pasted-front (file a) o) }
+        record { result = pick_true _ _ e refl; slice = pick_true _ _ e (all-pasted h₁ h₂ h₃ h₄ ∙ pasted_front (file a) o) }
 
   -- and what a writer whose slice is large enough gives
   pub whole-written : {r : ℕ} {exit : List ℕ} → Written a o r exit → length (file a) ≤ length o → (r ≡ 0) × (exit ≡ over (file a) o)

@@ -1,7 +1,7 @@
 // The answer file's writer. The file is specs/File.antt; that what is written is read back, specs/Back.antt.
 ghost use Rattle.std.specs.Prelude.{◌≡◌, ◌++◌, ◌+◌, ◌*◌, ◌≤◌, ◌<◌, leb, length};
-ghost use Rattle.block.specs.Ranges.{maxWords, maxAnchors, maxSpans};
-ghost use Rattle.answer.specs.File.{answer_of, bytes, code, in4, in8, each, field, fileSize, Written};
+ghost use Rattle.block.specs.Ranges.{max_words, max_anchors, max_spans};
+ghost use Rattle.answer.specs.File.{answer_of, bytes, code, in4, in8, each, field, file_size, Written};
 ghost use Rattle.answer.specs.Pasted.{pasted};
 
 // The tags, and the length of a field's header.
@@ -111,7 +111,7 @@ fn number_field(out: &mut [u8], at: usize, tag: u64, n: u64, k: usize)
 // The length of the answer file of so many times and prices.
 pub fn file_size(times: usize, prices: usize) -> usize
     requires { (times ≤ 32) × (prices ≤ 25) }
-    ensures { result ≡ fileSize times prices }
+    ensures { result ≡ file_size times prices }
 {
     22 + 4 * times + 8 * prices
 }
@@ -119,14 +119,14 @@ pub fn file_size(times: usize, prices: usize) -> usize
 // Whether a slice of so many bytes has room for it.
 pub fn has_room(times: usize, prices: usize, room: usize) -> bool
     requires { (times ≤ 32) × (prices ≤ 25) }
-    ensures { result ≡ leb (fileSize times prices) room }
+    ensures { result ≡ leb (file_size times prices) room }
 {
     file_size(times, prices) <= room
 }
 
 // Writes the answer file to the front of `out`, whose other bytes are kept; 8 where it is too small, and then all are. Field 20 has two bytes.
 pub fn write(out: &mut [u8], times: &[i32], prices: &[i64], gap: i64, passes: u64) -> u32
-    requires { (length times.now ≤ maxWords) × (length prices.now ≤ maxAnchors + maxSpans + 1) × (passes < 65536) }
+    requires { (length times.now ≤ max_words) × (length prices.now ≤ max_anchors + max_spans + 1) × (passes < 65536) }
     ensures { Written (answer_of times.now prices.now gap passes) out.old result out.new }
 {
     let t = times.len();

@@ -6,33 +6,33 @@ use Rattle.std.proofs.Math.Logic.{inl, inr}
 use borrow.Author.Tests.{not-true}
 use Rattle.std.specs.Float.{nan, inf, fin}
 use Rattle.std.specs.Float.Ieee.{is_nan, neg, lt, eq}
-use Rattle.folds.specs.Fold.{pick, pick-by, both, both_yes, both_true, false-true, false_of}
-use Rattle.arith.specs.Scalar.{is_finite, negative, abs, clamp, max, min, totalLess}
-use Rattle.arith.specs.Compare.{lt_irrefl, lt-asym, lt-passes, lt-number, nan-before, nan-after, eq-not, eq-lt, eq_number, eq_trans}
-use Rattle.arith.specs.Compare.{lt-passes-back}
+use Rattle.folds.specs.Fold.{pick, pick_by, both, both_yes, both_true, false_true, false_of}
+use Rattle.arith.specs.Scalar.{is_finite, negative, abs, clamp, max, min, total_less}
+use Rattle.arith.specs.Compare.{lt_irrefl, lt_asym, lt-passes, lt-number, nan_before, nan_after, eq-not, eq-lt, eq-number, eq_trans}
+use Rattle.arith.specs.Compare.{lt-passes_back}
 
 -- ---- finite values
-pub fin-finite : (s : Bool) (m : ℕ) (e : ℤ) → is_finite (fin s m e) ≡ true
+pub fin_finite : (s : Bool) (m : ℕ) (e : ℤ) → is_finite (fin s m e) ≡ true
 unfolding is_finite
-fin-finite s m e = refl
+fin_finite s m e = refl
 
-pub inf-finite : (s : Bool) → is_finite (inf s) ≡ false
+pub inf_finite : (s : Bool) → is_finite (inf s) ≡ false
 unfolding is_finite
-inf-finite s = refl
+inf_finite s = refl
 
-pub nan-finite : is_finite nan ≡ false
+pub nan_finite : is_finite nan ≡ false
 unfolding is_finite
-nan-finite = refl
+nan_finite = refl
 
-pub finite-by : (P : Float → Type 0) → ((s : Bool) (m : ℕ) (e : ℤ) → P (fin s m e)) → (x : Float) → is_finite x ≡ true → P x
+pub finite_by : (P : Float → Type 0) → ((s : Bool) (m : ℕ) (e : ℤ) → P (fin s m e)) → (x : Float) → is_finite x ≡ true → P x
 unfolding is_finite
-finite-by P f nan h = absurd (false-true h)
-finite-by P f (inf s) h = absurd (false-true h)
-finite-by P f (fin s m e) h = f s m e
+finite_by P f nan h = absurd (false_true h)
+finite_by P f (inf s) h = absurd (false_true h)
+finite_by P f (fin s m e) h = f s m e
 
-pub finite_number : (x : Float) → is_finite x ≡ true → is_nan x ≡ false
+pub finite-number : (x : Float) → is_finite x ≡ true → is_nan x ≡ false
 unfolding is_nan
-finite_number = finite-by (λ x. is_nan x ≡ false) (λ s m e. refl)
+finite-number = finite_by (λ x. is_nan x ≡ false) (λ s m e. refl)
 
 -- ---- the sign and the absolute value
 pub abs-sign : (x : Float) → negative (abs x) ≡ false
@@ -44,13 +44,13 @@ abs-sign (fin s m e) = refl
 -- ---- the larger and the smaller
 module _ (a b : Float) where
   -- a NaN gives way
-  pub max-nan-first : is_nan a ≡ true → max a b ≡ b
+  pub max_nan_first : is_nan a ≡ true → max a b ≡ b
   unfolding max pick
-  max-nan-first h = rw h
+  max_nan_first h = rw h
 
-  pub max-nan-second : is_nan a ≡ false → is_nan b ≡ true → max a b ≡ a
+  pub max_nan_second : is_nan a ≡ false → is_nan b ≡ true → max a b ≡ a
   unfolding max pick
-  max-nan-second h k = rw (h, nan-after a b k)
+  max_nan_second h k = rw (h, nan_after a b k)
 
   pub max-first : is_nan a ≡ false → lt a b ≡ false → max a b ≡ a
   unfolding max pick
@@ -63,31 +63,31 @@ module _ (a b : Float) where
   pub max-number : is_nan a ≡ false → is_nan (max a b) ≡ false
   unfolding max
   max-number h =
-      pick-by (λ x. is_nan x ≡ false) (is_nan a) (λ k. absurd (false-true (sym h ∙ k)))
-      (λ _. pick-by (λ x. is_nan x ≡ false) (lt a b) (λ l. (lt-number a b l).1) (λ _. h))
+      pick_by (λ x. is_nan x ≡ false) (is_nan a) (λ k. absurd (false_true (sym h ∙ k)))
+      (λ _. pick_by (λ x. is_nan x ≡ false) (lt a b) (λ l. (lt-number a b l).1) (λ _. h))
 
   -- neither is above the larger or below the smaller
   pub max-from-first : lt (max a b) a ≡ false
   unfolding max
   max-from-first =
-      pick-by (λ x. lt x a ≡ false) (is_nan a) (λ h. nan-after b a h)
-      (λ _. pick-by (λ x. lt x a ≡ false) (lt a b) (λ h. lt-asym a b h) (λ _. lt_irrefl a))
+      pick_by (λ x. lt x a ≡ false) (is_nan a) (λ h. nan_after b a h)
+      (λ _. pick_by (λ x. lt x a ≡ false) (lt a b) (λ h. lt_asym a b h) (λ _. lt_irrefl a))
 
   pub max-from-second : lt (max a b) b ≡ false
   unfolding max
   max-from-second =
-      pick-by (λ x. lt x b ≡ false) (is_nan a) (λ _. lt_irrefl b) (λ _. pick-by (λ x. lt x b ≡ false) (lt a b) (λ _. lt_irrefl b) (λ h. h))
+      pick_by (λ x. lt x b ≡ false) (is_nan a) (λ _. lt_irrefl b) (λ _. pick_by (λ x. lt x b ≡ false) (lt a b) (λ _. lt_irrefl b) (λ h. h))
 
-  pub min-to-first : lt a (min a b) ≡ false
+  pub min_to_first : lt a (min a b) ≡ false
   unfolding min
-  min-to-first =
-      pick-by (λ x. lt a x ≡ false) (is_nan a) (λ h. nan-before a b h)
-      (λ _. pick-by (λ x. lt a x ≡ false) (lt b a) (λ h. lt-asym b a h) (λ _. lt_irrefl a))
+  min_to_first =
+      pick_by (λ x. lt a x ≡ false) (is_nan a) (λ h. nan_before a b h)
+      (λ _. pick_by (λ x. lt a x ≡ false) (lt b a) (λ h. lt_asym b a h) (λ _. lt_irrefl a))
 
-  pub min-to-second : lt b (min a b) ≡ false
+  pub min_to_second : lt b (min a b) ≡ false
   unfolding min
-  min-to-second =
-      pick-by (λ x. lt b x ≡ false) (is_nan a) (λ _. lt_irrefl b) (λ _. pick-by (λ x. lt b x ≡ false) (lt b a) (λ _. lt_irrefl b) (λ h. h))
+  min_to_second =
+      pick_by (λ x. lt b x ≡ false) (is_nan a) (λ _. lt_irrefl b) (λ _. pick_by (λ x. lt b x ≡ false) (lt b a) (λ _. lt_irrefl b) (λ h. h))
 
 -- ---- held between two
 module _ (x lo hi : Float) where
@@ -108,38 +108,38 @@ module _ (x lo hi : Float) where
     pub clamp-from : lt (clamp x lo hi) lo ≡ false
     unfolding clamp
     clamp-from =
-        pick-by (λ y. lt y lo ≡ false) (lt x lo) (λ _. lt_irrefl lo) (λ k. pick-by (λ y. lt y lo ≡ false) (lt hi x) (λ _. h) (λ _. k))
+        pick_by (λ y. lt y lo ≡ false) (lt x lo) (λ _. lt_irrefl lo) (λ k. pick_by (λ y. lt y lo ≡ false) (lt hi x) (λ _. h) (λ _. k))
 
-    pub clamp-to : lt hi (clamp x lo hi) ≡ false
+    pub clamp_to : lt hi (clamp x lo hi) ≡ false
     unfolding clamp
-    clamp-to =
-        pick-by (λ y. lt hi y ≡ false) (lt x lo) (λ _. h) (λ _. pick-by (λ y. lt hi y ≡ false) (lt hi x) (λ _. lt_irrefl hi) (λ k. k))
+    clamp_to =
+        pick_by (λ y. lt hi y ≡ false) (lt x lo) (λ _. h) (λ _. pick_by (λ y. lt hi y ≡ false) (lt hi x) (λ _. lt_irrefl hi) (λ k. k))
 
 -- ---- the total order
 module _ (a b : Float) where
-  pub total-nan : is_nan a ≡ true → totalLess a b ≡ false
-  unfolding totalLess pick
-  total-nan h = rw h
+  pub total_nan : is_nan a ≡ true → total_less a b ≡ false
+  unfolding total_less pick
+  total_nan h = rw h
 
-  pub total-last : is_nan a ≡ false → is_nan b ≡ true → totalLess a b ≡ true
-  unfolding totalLess pick
+  pub total-last : is_nan a ≡ false → is_nan b ≡ true → total_less a b ≡ true
+  unfolding total_less pick
   total-last h k = rw (h, k)
 
-  pub total-lt : lt a b ≡ true → totalLess a b ≡ true
-  unfolding totalLess pick
+  pub total-lt : lt a b ≡ true → total_less a b ≡ true
+  unfolding total_less pick
   total-lt h = let n = lt-number a b h in rw (n.0, n.1, h)
 
   -- -0 is before +0
-  pub total-zero : eq a b ≡ true → negative a ≡ true → negative b ≡ false → totalLess a b ≡ true
-  unfolding totalLess pick
+  pub total-zero : eq a b ≡ true → negative a ≡ true → negative b ≡ false → total_less a b ≡ true
+  unfolding total_less pick
   total-zero h p q =
-      let n = eq_number a b h in
+      let n = eq-number a b h in
       rw (n.0, n.1, (eq-lt a b h).0) (both_yes h (both_yes p (rw q)))
 
   -- what it tells of b, where b is a number
-  pub total-told : totalLess a b ≡ true → is_nan b ≡ false → (lt a b ≡ true) ⊎ ((eq a b ≡ true) × (negative a ≡ true) × (negative b ≡ false))
-  unfolding totalLess
-  total-told h n = go (is_nan a) (lt a b) refl (rw n at h)
+  pub total_told : total_less a b ≡ true → is_nan b ≡ false → (lt a b ≡ true) ⊎ ((eq a b ≡ true) × (negative a ≡ true) × (negative b ≡ false))
+  unfolding total_less
+  total_told h n = go (is_nan a) (lt a b) refl (rw n at h)
     where
       signs : both (eq a b) (both (negative a) (not (negative b))) ≡ true → (eq a b ≡ true) × (negative a ≡ true) × (negative b ≡ false)
       signs e =
@@ -149,52 +149,52 @@ module _ (a b : Float) where
 
       go : (c d : Bool) → lt a b ≡ d → pick c false (pick false true (pick d true (both (eq a b) (both (negative a) (not (negative b)))))) ≡ true →
           (lt a b ≡ true) ⊎ ((eq a b ≡ true) × (negative a ≡ true) × (negative b ≡ false))
-      go true d l e = absurd (false-true (unfold pick in e))
+      go true d l e = absurd (false_true (unfold pick in e))
       go false true l e = inl l
       go false false l e = inr (signs (unfold pick in e))
 
-  pub total-number : totalLess a b ≡ true → is_nan a ≡ false
-  total-number h = false_of (is_nan a) (λ e. false-true (sym (total-nan e) ∙ h))
+  pub total-number : total_less a b ≡ true → is_nan a ≡ false
+  total-number h = false_of (is_nan a) (λ e. false_true (sym (total_nan e) ∙ h))
 
-  pub total-not : totalLess a b ≡ false → is_nan a ≡ false → (is_nan b ≡ false) × (lt a b ≡ false)
+  pub total-not : total_less a b ≡ false → is_nan a ≡ false → (is_nan b ≡ false) × (lt a b ≡ false)
   total-not h n =
-      (false_of (is_nan b) (λ e. false-true (sym h ∙ total-last n e)), false_of (lt a b) (λ e. false-true (sym h ∙ total-lt e)))
+      (false_of (is_nan b) (λ e. false_true (sym h ∙ total-last n e)), false_of (lt a b) (λ e. false_true (sym h ∙ total-lt e)))
 
-pub total-asym : (a b : Float) → totalLess a b ≡ true → totalLess b a ≡ false
-total-asym a b h = false_of (totalLess b a) (λ k. ⊎_elim (less k) (equal k) (total-told a b h (total-number b a k)))
+pub total_asym : (a b : Float) → total_less a b ≡ true → total_less b a ≡ false
+total_asym a b h = false_of (total_less b a) (λ k. ⊎_elim (less k) (equal k) (total_told a b h (total-number b a k)))
   where
-    back : totalLess b a ≡ true → (lt b a ≡ true) ⊎ ((eq b a ≡ true) × (negative b ≡ true) × (negative a ≡ false))
-    back k = total-told b a k (total-number a b h)
+    back : total_less b a ≡ true → (lt b a ≡ true) ⊎ ((eq b a ≡ true) × (negative b ≡ true) × (negative a ≡ false))
+    back k = total_told b a k (total-number a b h)
 
-    less : totalLess b a ≡ true → lt a b ≢ true
-    less k l = ⊎_elim (λ (g : lt b a ≡ true). false-true (sym (lt-asym a b l) ∙ g)) (λ g. false-true (sym (eq-lt b a g.0).1 ∙ l)) (back k)
+    less : total_less b a ≡ true → lt a b ≢ true
+    less k l = ⊎_elim (λ (g : lt b a ≡ true). false_true (sym (lt_asym a b l) ∙ g)) (λ g. false_true (sym (eq-lt b a g.0).1 ∙ l)) (back k)
 
-    equal : totalLess b a ≡ true → (eq a b ≡ true) × (negative a ≡ true) × (negative b ≡ false) → ⊥
-    equal k l = ⊎_elim (λ (g : lt b a ≡ true). false-true (sym (eq-lt a b l.0).1 ∙ g)) (λ g. false-true (sym l.2 ∙ g.1)) (back k)
+    equal : total_less b a ≡ true → (eq a b ≡ true) × (negative a ≡ true) × (negative b ≡ false) → ⊥
+    equal k l = ⊎_elim (λ (g : lt b a ≡ true). false_true (sym (eq-lt a b l.0).1 ∙ g)) (λ g. false_true (sym l.2 ∙ g.1)) (back k)
 
 -- a is before b, and c is not
-pub total-passes : (a b c : Float) → totalLess a b ≡ true → totalLess c b ≡ false → totalLess a c ≡ true
+pub total-passes : (a b c : Float) → total_less a b ≡ true → total_less c b ≡ false → total_less a c ≡ true
 total-passes a b c h k = go (is_nan c) refl
   where
     i : is_nan a ≡ false
     i = total-number a b h
 
     equal : is_nan c ≡ false → is_nan b ≡ false → lt c b ≡ false → eq a b ≡ true → negative a ≡ true → negative b ≡ false → (d : Bool) → lt b c ≡ d →
-        totalLess a c ≡ true
-    equal j n l e p q true g = total-lt a c (lt-passes-back a b c i g (eq-lt a b e).1)
+        total_less a c ≡ true
+    equal j n l e p q true g = total-lt a c (lt-passes_back a b c i g (eq-lt a b e).1)
     equal j n l e p q false g =
         total-zero a c (eq_trans a b c e (eq-not b c n j g l)) p
-        (false_of (negative c) (λ z. false-true (sym k ∙ total-zero c b (eq-not c b j n l g) z q)))
+        (false_of (negative c) (λ z. false_true (sym k ∙ total-zero c b (eq-not c b j n l g) z q)))
 
-    number : is_nan c ≡ false → totalLess a c ≡ true
+    number : is_nan c ≡ false → total_less a c ≡ true
     number j =
         let w = total-not c b k j in
         ⊎_elim (λ (l : lt a b ≡ true). total-lt a c (lt-passes a b c j l w.1)) (λ l. equal j w.0 w.1 l.0 l.1 l.2 (lt b c) refl)
-        (total-told a b h w.0)
+        (total_told a b h w.0)
 
-    go : (d : Bool) → is_nan c ≡ d → totalLess a c ≡ true
+    go : (d : Bool) → is_nan c ≡ d → total_less a c ≡ true
     go true e = total-last a c i e
     go false e = number e
 
-pub total-through : (a b c : Float) → totalLess a b ≡ true → totalLess b c ≡ true → totalLess a c ≡ true
-total-through a b c h k = total-passes a b c h (total-asym b c k)
+pub total_through : (a b c : Float) → total_less a b ≡ true → total_less b c ≡ true → total_less a c ≡ true
+total_through a b c h k = total-passes a b c h (total_asym b c k)

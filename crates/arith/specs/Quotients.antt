@@ -10,8 +10,8 @@ use Rattle.std.specs.Float.Ieee.Exact.{HasValue, units_val}
 use Rattle.std.specs.Float.Ieee.Order.{drop, kept}
 use Rattle.std.specs.Float.Ieee.Positive.{num, den}
 use Rattle.std.specs.Float.Ieee.Scale.{grid, overflow}
-use Rattle.folds.specs.Fold.{fold, pick, all, false-true}
-use Rattle.root.specs.Closest.{kept_under}
+use Rattle.folds.specs.Fold.{fold, pick, all, false_true}
+use Rattle.root.specs.Closest.{kept-under}
 use Rattle.arith.specs.Float.{fdiv, f0, at}
 use Rattle.arith.specs.Scalar.{abs, max, is_finite}
 
@@ -30,14 +30,14 @@ room binary64 = lit< tt
 under : (f : Format) (a b : ℕ) → 0 < b → a ≤ b → grid f a b < overflow f
 under f a b h l =
     let u : ℕ = 2 ^ low f in
-    let k : 2 * (grid f a b * b) ≤ 3 * (a * u) + b = kept_under (prec f) (a * u) b (two-le_pos (prec f) (two f)) h in
+    let k : 2 * (grid f a b * b) ≤ 3 * (a * u) + b = kept-under (prec f) (a * u) b (two-le_pos (prec f) (two f)) h in
     let one : 1 * b ≤ u * b = mul-le-mul_right b (pow_pos (low f)) in
     let all : a * u ≤ u * b = rw (mul_comm u b) (mul-le-mul_right u l) in
     let g : grid f a b * b ≤ u * 2 * b = rw (mul_right_comm u 2 b) (omega arith) in
     lt_of_le_of_lt (rw (pow-suc 2 (low f)) (le_of_mul-le-mul_right g h)) (pow-lt (room f))
 
-pub round-finite : (s : Bool) (a b : ℕ) → 0 < b → a ≤ b → is_finite (round binary64 s a b) ≡ true
-round-finite s a b h l =
+pub round_finite : (s : Bool) (a b : ℕ) → 0 < b → a ≤ b → is_finite (round binary64 s a b) ≡ true
+round_finite s a b h l =
     rw (round_is binary64 s a b)
     (value-finite _ s (grid binary64 a b) (2 ^ 1074)
     (units_val binary64 s (kept 53 (a * 2 ^ 1074) b) (drop 53 (a * 2 ^ 1074) b) (under binary64 a b h l)))
@@ -60,8 +60,8 @@ unfolding is_finite max abs is_nan lt pick
 larger nan x p q = absurd p
 larger (inf s) x p q = absurd p
 larger (fin true m e) x p q = absurd p
-larger (fin false m e) nan p q = absurd (false-true q)
-larger (fin false m e) (inf s) p q = absurd (false-true q)
+larger (fin false m e) nan p q = absurd (false_true q)
+larger (fin false m e) (inf s) p q = absurd (false_true q)
 larger (fin false m e) (fin s n d) p q = go (nat_lt (m * up e * down d) (n * up d * down e)) refl
   where
     z : Bool → Float
@@ -75,13 +75,13 @@ larger (fin false m e) (fin s n d) p q = go (nat_lt (m * up e * down d) (n * up 
 
 pub quotient : (x l : Float) → is_finite x ≡ true → Size l → eq l f0 ≡ false → Under x l → is_finite (fdiv x l) ≡ true
 unfolding is_finite div eq of_bits
-quotient nan l p q r u = absurd (false-true p)
-quotient (inf s) l p q r u = absurd (false-true p)
+quotient nan l p q r u = absurd (false_true p)
+quotient (inf s) l p q r u = absurd (false_true p)
 quotient (fin s m e) nan p q r u = absurd q
 quotient (fin s m e) (inf t) p q r u = absurd q
 quotient (fin s m e) (fin true n d) p q r u = absurd q
 quotient (fin s m e) (fin false zero d) p q r u =
-    let z : eq (fin false 0 d) f0 ≡ true = rw (zero-mul (up d), zero-mul (down d)) in absurd (false-true (sym r ∙ z))
+    let z : eq (fin false 0 d) f0 ≡ true = rw (zero-mul (up d), zero-mul (down d)) in absurd (false_true (sym r ∙ z))
 quotient (fin s m e) (fin false (suc n) d) p q r u =
     rw (eqb-suc-zero n)
-    (round-finite (unlike s false) (m * up e * down d) (suc n * up d * down e) (mul-pos (mul-pos (zero-lt-suc n) (up_pos d)) (down_pos e)) u)
+    (round_finite (unlike s false) (m * up e * down d) (suc n * up d * down e) (mul-pos (mul-pos (zero-lt-suc n) (up_pos d)) (down_pos e)) u)

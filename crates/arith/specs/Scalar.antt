@@ -11,10 +11,10 @@ is_finite nan = false
 is_finite (inf s) = false
 is_finite (fin s m e) = true
 
-unfoldable pub isInfinite : Float → Bool
-isInfinite nan = false
-isInfinite (inf s) = true
-isInfinite (fin s m e) = false
+unfoldable pub is_infinite : Float → Bool
+is_infinite nan = false
+is_infinite (inf s) = true
+is_infinite (fin s m e) = false
 
 -- the sign bit, of -0 too
 unfoldable pub negative : Float → Bool
@@ -43,5 +43,5 @@ unfoldable pub min : (a b : Float) → Float
 min a b = pick (is_nan a) b (pick (lt b a) b a)
 
 -- `total_cmp` finds a strictly before b: by value, -0 before +0, and NaN after all others
-unfoldable pub totalLess : (a b : Float) → Bool
-totalLess a b = pick (is_nan a) false (pick (is_nan b) true (pick (lt a b) true (both (eq a b) (both (negative a) (not (negative b))))))
+unfoldable pub total_less : (a b : Float) → Bool
+total_less a b = pick (is_nan a) false (pick (is_nan b) true (pick (lt a b) true (both (eq a b) (both (negative a) (not (negative b))))))

@@ -1,20 +1,20 @@
 // Scalars: what Rust has as methods of f64.
 ghost use Rattle.std.specs.Prelude.{◌≡◌, is_nan};
-ghost use Rattle.std.specs.Float.{nan as nanValue};
-ghost use Rattle.arith.specs.Float.{fromℕ, infinity as infinityValue};
+ghost use Rattle.std.specs.Float.{nan as nan_value};
+ghost use Rattle.arith.specs.Float.{fromℕ, infinity as infinity_value};
 ghost use Rattle.arith.specs.Scalar as Scalar;
 
 pub const EPSILON: f64 = 2.220446049250313e-16;
 
 // f64::INFINITY and f64::NAN, which no constant may hold.
 pub fn infinity() -> f64
-    ensures { result ≡ infinityValue }
+    ensures { result ≡ infinity_value }
 {
     1.0 / 0.0
 }
 
 pub fn nan() -> f64
-    ensures { result ≡ nanValue }
+    ensures { result ≡ nan_value }
 {
     0.0 / 0.0
 }
@@ -35,7 +35,7 @@ pub fn is_finite(x: f64) -> bool
 }
 
 pub fn is_infinite(x: f64) -> bool
-    ensures { result ≡ Scalar.isInfinite x }
+    ensures { result ≡ Scalar.is_infinite x }
 {
     if x == 1.0 / 0.0 {
         return true;
@@ -112,7 +112,7 @@ pub fn min(a: f64, b: f64) -> f64
 
 // Whether `a.total_cmp(&b)` is Less, with every NaN equal to every other and above +infinity.
 pub fn total_less(a: f64, b: f64) -> bool
-    ensures { result ≡ Scalar.totalLess a b }
+    ensures { result ≡ Scalar.total_less a b }
 {
     if b != b {
         return a == a;

@@ -7,25 +7,25 @@ use Rattle.folds.specs.Fold.{all, both, pick, false_of}
 use Rattle.ints.specs.Diff.{diff, split, maxℤ}
 use Rattle.ints.specs.Sum.{Σ}
 use Rattle.block.specs.Block.{Block, Word, Item, Tempo, Anchor, Span, word, tempo, anchor, span}
-use Rattle.block.specs.Plan.{time, abs, square, product, sum_of, move, moves, bend, off, squareOf, squares, bends, cost}
-use Rattle.block.specs.Keeps.{anchorMiss, outside, spanMiss, windowKept, coefSize, coefSizes, missBounded, movesBounded, windowsKept}
-use Rattle.block.specs.Keeps.{anchorsBounded, spansBounded, bounded, bounded-true}
-use Rattle.block.specs.Gap.{Prices, price, coefAt, coefOf, slopeOf, g, anchorPart, spanPart, h, line, candidates, least, wordGap, wordGapOf}
-use Rattle.block.specs.Gap.{wordGaps, values, ends, gap}
-use Rattle.block.specs.Ranges.{maxTime, Ranged}
+use Rattle.block.specs.Plan.{time, abs, square, product, sum_of, move, moves, bend, off, square_of, squares, bends, cost}
+use Rattle.block.specs.Keeps.{anchor_miss, outside, span_miss, window_kept, coef_size, coef_sizes, miss_bounded, moves_bounded, windows_kept}
+use Rattle.block.specs.Keeps.{anchors_bounded, spans_bounded, bounded, bounded_true}
+use Rattle.block.specs.Gap.{Prices, price, coef_at, coef_of, slope_of, g, anchor_part, span_part, h, line, candidates, least, word_gap, word_gap_of}
+use Rattle.block.specs.Gap.{word_gaps, values, ends, gap}
+use Rattle.block.specs.Ranges.{max_time, Ranged}
 
 -- ---- a list, a word, a tempo term
-pub sumOf-is : (l : List Item) (x : List ℤ) → sum_of l x ≡ Σ (length l) (product l x)
+pub sum_of-is : (l : List Item) (x : List ℤ) → sum_of l x ≡ Σ (length l) (product l x)
 unfolding sum_of
-sumOf-is l x = refl
+sum_of-is l x = refl
 
-pub coefOf-is : (i : ℕ) (l : List Item) → coefOf i l ≡ Σ (length l) (coefAt i l)
-unfolding coefOf
-coefOf-is i l = refl
+pub coef_of-is : (i : ℕ) (l : List Item) → coef_of i l ≡ Σ (length l) (coef_at i l)
+unfolding coef_of
+coef_of-is i l = refl
 
-pub coefSizes-is : (l : List Item) → coefSizes l ≡ Σ (length l) (coefSize l)
-unfolding coefSizes
-coefSizes-is l = refl
+pub coef_sizes-is : (l : List Item) → coef_sizes l ≡ Σ (length l) (coef_size l)
+unfolding coef_sizes
+coef_sizes-is l = refl
 
 pub move-is : (w : Word) (t : ℤ) → move w t ≡ abs (t -ℤ pos w.key)
 unfolding move
@@ -39,38 +39,38 @@ pub line-is : (w : Word) (h : ℤ) (r : ℕ) (t : ℤ) → line w h r t ≡ h *�
 unfolding line
 line-is w h r t = refl
 
-pub wordGap-is : (w : Word) (g h : ℤ) (r : ℕ) (t : ℤ) → wordGap w g h r t ≡ g *ℤ t +ℤ bend w t -ℤ least (line w h r) (candidates w)
-unfolding wordGap
-wordGap-is w g h r t = refl
+pub word_gap-is : (w : Word) (g h : ℤ) (r : ℕ) (t : ℤ) → word_gap w g h r t ≡ g *ℤ t +ℤ bend w t -ℤ least (line w h r) (candidates w)
+unfolding word_gap
+word_gap-is w g h r t = refl
 
-pub squareOf-is : (t : Tempo) (x : List ℤ) → squareOf t x ≡ pos t.weight *ℤ square (off t x)
-unfolding squareOf
-squareOf-is t x = refl
+pub square_of-is : (t : Tempo) (x : List ℤ) → square_of t x ≡ pos t.weight *ℤ square (off t x)
+unfolding square_of
+square_of-is t x = refl
 
-pub slopeOf-is : (t : Tempo) (x : List ℤ) (i : ℕ) → slopeOf t x i ≡ pos t.weight *ℤ off t x *ℤ coefOf i t.list
-unfolding slopeOf
-slopeOf-is t x i = refl
+pub slope_of-is : (t : Tempo) (x : List ℤ) (i : ℕ) → slope_of t x i ≡ pos t.weight *ℤ off t x *ℤ coef_of i t.list
+unfolding slope_of
+slope_of-is t x i = refl
 
 -- ---- misses and their tests
-pub anchorMiss-is : (a : Anchor) (x : List ℤ) → anchorMiss a x ≡ abs (sum_of a.list x -ℤ a.value)
-unfolding anchorMiss
-anchorMiss-is a x = refl
+pub anchor_miss-is : (a : Anchor) (x : List ℤ) → anchor_miss a x ≡ abs (sum_of a.list x -ℤ a.value)
+unfolding anchor_miss
+anchor_miss-is a x = refl
 
 pub outside-is : (lower upper s : ℤ) → outside lower upper s ≡ pick (lt_z s lower) (lower -ℤ s) (pick (lt_z upper s) (s -ℤ upper) (pos 0))
 unfolding outside
 outside-is lower upper s = refl
 
-pub spanMiss-is : (s : Span) (x : List ℤ) → spanMiss s x ≡ outside s.lower s.upper (sum_of s.list x)
-unfolding spanMiss
-spanMiss-is s x = refl
+pub span_miss-is : (s : Span) (x : List ℤ) → span_miss s x ≡ outside s.lower s.upper (sum_of s.list x)
+unfolding span_miss
+span_miss-is s x = refl
 
-pub missBounded-is : (miss : ℤ) (l : List Item) → missBounded miss l ≡ le_z (pos 2 *ℤ miss) (coefSizes l)
-unfolding missBounded
-missBounded-is miss l = refl
+pub miss_bounded-is : (miss : ℤ) (l : List Item) → miss_bounded miss l ≡ le_z (pos 2 *ℤ miss) (coef_sizes l)
+unfolding miss_bounded
+miss_bounded-is miss l = refl
 
-pub windowKept-is : (w : Word) (t : ℤ) → windowKept w t ≡ both (le_z (pos w.lower) t) (le_z t (pos w.upper))
-unfolding windowKept
-windowKept-is w t = refl
+pub window_kept-is : (w : Word) (t : ℤ) → window_kept w t ≡ both (le_z (pos w.lower) t) (le_z t (pos w.upper))
+unfolding window_kept
+window_kept-is w t = refl
 
 -- ---- a block and a plan
 module _ (b : Block) (x : List ℤ) where
@@ -82,7 +82,7 @@ module _ (b : Block) (x : List ℤ) where
   unfolding bends
   bends-is = refl
 
-  pub squares-is : squares b x ≡ Σ (length b.tempos) (λ j. squareOf (tempo b j) x)
+  pub squares-is : squares b x ≡ Σ (length b.tempos) (λ j. square_of (tempo b j) x)
   unfolding squares
   squares-is = refl
 
@@ -90,63 +90,63 @@ module _ (b : Block) (x : List ℤ) where
   unfolding cost
   cost-is = refl
 
-  pub g-is : (i : ℕ) → g b x i ≡ Σ (length b.tempos) (λ j. slopeOf (tempo b j) x i)
+  pub g-is : (i : ℕ) → g b x i ≡ Σ (length b.tempos) (λ j. slope_of (tempo b j) x i)
   unfolding g
   g-is i = refl
 
-  pub windowsKept-is : windowsKept b x ≡ all (length b.words) (λ i. windowKept (word b i) (time x i))
-  unfolding windowsKept
-  windowsKept-is = refl
+  pub windows_kept-is : windows_kept b x ≡ all (length b.words) (λ i. window_kept (word b i) (time x i))
+  unfolding windows_kept
+  windows_kept-is = refl
 
-  pub movesBounded-is : movesBounded b x ≡ le_z (pos 2 *ℤ (moves b x -ℤ pos b.cap)) (pos (length b.words))
-  unfolding movesBounded
-  movesBounded-is = refl
+  pub moves_bounded-is : moves_bounded b x ≡ le_z (pos 2 *ℤ (moves b x -ℤ pos b.cap)) (pos (length b.words))
+  unfolding moves_bounded
+  moves_bounded-is = refl
 
-  pub anchorsBounded-is : anchorsBounded b x ≡ all (length b.anchors) (λ k. missBounded (anchorMiss (anchor b k) x) (anchor b k).list)
-  unfolding anchorsBounded
-  anchorsBounded-is = refl
+  pub anchors_bounded-is : anchors_bounded b x ≡ all (length b.anchors) (λ k. miss_bounded (anchor_miss (anchor b k) x) (anchor b k).list)
+  unfolding anchors_bounded
+  anchors_bounded-is = refl
 
-  pub spansBounded-is : spansBounded b x ≡ all (length b.spans) (λ k. missBounded (spanMiss (span b k) x) (span b k).list)
-  unfolding spansBounded
-  spansBounded-is = refl
+  pub spans_bounded-is : spans_bounded b x ≡ all (length b.spans) (λ k. miss_bounded (span_miss (span b k) x) (span b k).list)
+  unfolding spans_bounded
+  spans_bounded-is = refl
 
-  pub bounded-is : bounded b x ≡ both (windowsKept b x) (both (movesBounded b x) (both (anchorsBounded b x) (spansBounded b x)))
+  pub bounded-is : bounded b x ≡ both (windows_kept b x) (both (moves_bounded b x) (both (anchors_bounded b x) (spans_bounded b x)))
   unfolding bounded
   bounded-is = refl
 
 -- ---- and prices
 module _ (b : Block) (p : List ℤ) where
-  pub anchorPart-is : (i : ℕ) → anchorPart b p i ≡ Σ (length b.anchors) (λ k. price p k *ℤ coefOf i (anchor b k).list)
-  unfolding anchorPart
-  anchorPart-is i = refl
+  pub anchor_part-is : (i : ℕ) → anchor_part b p i ≡ Σ (length b.anchors) (λ k. price p k *ℤ coef_of i (anchor b k).list)
+  unfolding anchor_part
+  anchor_part-is i = refl
 
-  pub spanPart-is : (i : ℕ) → spanPart b p i ≡ Σ (length b.spans) (λ k. price p k *ℤ coefOf i (span b k).list)
-  unfolding spanPart
-  spanPart-is i = refl
+  pub span_part-is : (i : ℕ) → span_part b p i ≡ Σ (length b.spans) (λ k. price p k *ℤ coef_of i (span b k).list)
+  unfolding span_part
+  span_part-is i = refl
 
   pub values-is : values b p ≡ Σ (length b.anchors) (λ k. price p k *ℤ (anchor b k).value)
   unfolding values
   values-is = refl
 
-  pub ends_is : ends b p ≡ Σ (length b.spans) (λ k. maxℤ (price p k *ℤ (span b k).lower) (price p k *ℤ (span b k).upper))
+  pub ends-is : ends b p ≡ Σ (length b.spans) (λ k. maxℤ (price p k *ℤ (span b k).lower) (price p k *ℤ (span b k).upper))
   unfolding ends
-  ends_is = refl
+  ends-is = refl
 
 module _ (b : Block) (x : List ℤ) (p : Prices) where
-  pub h-is : (i : ℕ) → h b x p i ≡ g b x i +ℤ anchorPart b p.anchors i +ℤ spanPart b p.spans i
+  pub h-is : (i : ℕ) → h b x p i ≡ g b x i +ℤ anchor_part b p.anchors i +ℤ span_part b p.spans i
   unfolding h
   h-is i = refl
 
-  pub wordGapOf-is : (i : ℕ) → wordGapOf b x p i ≡ wordGap (word b i) (g b x i) (h b x p i) p.cap (time x i)
-  unfolding wordGapOf
-  wordGapOf-is i = refl
+  pub word_gap_of-is : (i : ℕ) → word_gap_of b x p i ≡ word_gap (word b i) (g b x i) (h b x p i) p.cap (time x i)
+  unfolding word_gap_of
+  word_gap_of-is i = refl
 
-  pub wordGaps-is : wordGaps b x p ≡ Σ (length b.words) (wordGapOf b x p)
-  unfolding wordGaps
-  wordGaps-is = refl
+  pub word_gaps-is : word_gaps b x p ≡ Σ (length b.words) (word_gap_of b x p)
+  unfolding word_gaps
+  word_gaps-is = refl
 
   pub gap_is : gap b x p
-      ≡ pos 2 *ℤ wordGaps b x p +ℤ pos 2 *ℤ values b p.anchors +ℤ pos 2 *ℤ ends b p.spans +ℤ pos 2 *ℤ (pos p.cap *ℤ pos b.cap)
+      ≡ pos 2 *ℤ word_gaps b x p +ℤ pos 2 *ℤ values b p.anchors +ℤ pos 2 *ℤ ends b p.spans +ℤ pos 2 *ℤ (pos p.cap *ℤ pos b.cap)
   unfolding gap
   gap_is = refl
 
@@ -154,13 +154,13 @@ module _ (b : Block) (x : List ℤ) (p : Prices) where
 below : (n : ℕ) (t : ℤ) → t <ℤ pos 0 → pos n ≤ℤ t → ⊥
 below n = split _ λ a b. simp diff (omega arith)
 
-beyond : (n : ℕ) (t : ℤ) → n ≤ maxTime → pos maxTime <ℤ t → t ≤ℤ pos n → ⊥
+beyond : (n : ℕ) (t : ℤ) → n ≤ max_time → pos max_time <ℤ t → t ≤ℤ pos n → ⊥
 beyond n = split _ λ a b. simp diff (omega arith)
 
-pub bounded-far : {b : Block} → Ranged b → (x : List ℤ) (i : ℕ) → i < length b.words
-    → (time x i <ℤ pos 0) ⊎ (pos maxTime <ℤ time x i) → bounded b x ≡ false
-bounded-far {b} R x i l far =
+pub bounded_far : {b : Block} → Ranged b → (x : List ℤ) (i : ℕ) → i < length b.words
+    → (time x i <ℤ pos 0) ⊎ (pos max_time <ℤ time x i) → bounded b x ≡ false
+bounded_far {b} R x i l far =
     false_of (bounded b x)
     (λ e.
-    let w = (bounded-true b x e).windows i l in
+    let w = (bounded_true b x e).windows i l in
     ⊎_elim (λ h. below (word b i).lower (time x i) h w.0) (λ h. beyond (word b i).upper (time x i) (R.Each-word i l).upper h w.1) far)

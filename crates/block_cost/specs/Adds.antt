@@ -6,34 +6,34 @@ use Rattle.std.proofs.Math.Path.{ap}
 use Rattle.std.proofs.Math.IntN.{+ℤ_idr, +ℤ_assoc}
 use Rattle.std.specs.Float.Ieee.{nan}
 use Rattle.folds.specs.Fold.{fold}
-use Rattle.folds.specs.Tab.{set-tab, tab-same, getD-tab}
+use Rattle.folds.specs.Tab.{set-tab, tab-same, get_d_tab}
 use Rattle.ints.specs.Bound.{◌≼◌, ◌+b◌, loose, Σ-b, delta-b}
-use Rattle.ints.specs.Sum.{Σ, Σ-empty, Σ-suc, delta, delta-same, delta-other}
+use Rattle.ints.specs.Sum.{Σ, Σ-empty, Σ-suc, delta, delta-same, delta_other}
 use Rattle.arith.specs.Float.{fadd}
 use Rattle.nearest.specs.Value.{fromℤ}
-use Rattle.nearest.specs.Exact.{Stands, plus-exact}
+use Rattle.nearest.specs.Exact.{Stands, plus_exact}
 use Rattle.block_floats.specs.Exact.{wholes}
-use Rattle.block_cost.specs.Cost.{plusAt}
+use Rattle.block_cost.specs.Cost.{plus_at}
 
 pub record Adds (n a : ℕ) (f : List Float → List Float) (d : ℕ → ℤ) : Type 0 where
   pub small : (i : ℕ) → d i ≼ a
   pub adds : (m : ℕ) (s : ℕ → ℤ) → m + a ≤ 2 ^ 53 → ((i : ℕ) → s i ≼ m) → f (wholes n s) ≡ wholes n (λ i. s i +ℤ d i)
 
-pub adds-loose : {n a c : ℕ} {f : List Float → List Float} {d : ℕ → ℤ} → a ≤ c → Adds n a f d → Adds n c f d
-adds-loose h p = record { small = λ i. loose h (p.small i); adds = λ m s l b. p.adds m s (omega arith) b }
+pub adds_loose : {n a c : ℕ} {f : List Float → List Float} {d : ℕ → ℤ} → a ≤ c → Adds n a f d → Adds n c f d
+adds_loose h p = record { small = λ i. loose h (p.small i); adds = λ m s l b. p.adds m s (omega arith) b }
 
 -- one entry
 module _ (n w : ℕ) (v : Float) (z : ℤ) (a : ℕ) (h : w < n) (stands : Stands v z) (small : z ≼ a) where
-  one-added : (m : ℕ) (s : ℕ → ℤ) → m + a ≤ 2 ^ 53 → ((i : ℕ) → s i ≼ m) → plusAt (wholes n s) w v ≡ wholes n (λ i. s i +ℤ delta w i z)
-  unfolding plusAt
+  one-added : (m : ℕ) (s : ℕ → ℤ) → m + a ≤ 2 ^ 53 → ((i : ℕ) → s i ≼ m) → plus_at (wholes n s) w v ≡ wholes n (λ i. s i +ℤ delta w i z)
+  unfolding plus_at
   one-added m s l b =
       set-tab n w (λ i. fromℤ (s i)) (λ i. fromℤ (s i +ℤ delta w i z)) _ h
-      (ap (λ (x : Float). fadd x v) (getD-tab nan n w (λ i. fromℤ (s i)) h) ∙ plus-exact (s w) z (le_trans (b w).size (omega arith)) stands
+      (ap (λ (x : Float). fadd x v) (get_d_tab nan n w (λ i. fromℤ (s i)) h) ∙ plus_exact (s w) z (le_trans (b w).size (omega arith)) stands
       ∙ ap (λ (y : ℤ). fromℤ (s w +ℤ y)) (sym (delta-same w w z refl)))
-      (λ i _ q. ap fromℤ (sym (ap (λ (y : ℤ). s i +ℤ y) (delta-other w i z (λ e. q (sym e))) ∙ +ℤ_idr (s i))))
+      (λ i _ q. ap fromℤ (sym (ap (λ (y : ℤ). s i +ℤ y) (delta_other w i z (λ e. q (sym e))) ∙ +ℤ_idr (s i))))
 
-  pub adds_one : Adds n a (λ x. plusAt x w v) (λ i. delta w i z)
-  adds_one = record { small = λ i. delta-b w i small; adds = one-added }
+  pub adds-one : Adds n a (λ x. plus_at x w v) (λ i. delta w i z)
+  adds-one = record { small = λ i. delta-b w i small; adds = one-added }
 
 -- m steps, one after the other
 pub adds-all : (n a m : ℕ) (f : ℕ → List Float → List Float) (d : ℕ → ℕ → ℤ) → ((k : ℕ) → k < m → Adds n a (f k) (d k)) →

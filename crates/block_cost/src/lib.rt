@@ -1,7 +1,7 @@
 // The terms of a block's cost that the engine gets: Q and c, as floats. The definitions are specs/Cost.antt; Q is stored column after column.
 ghost use Rattle.std.specs.Prelude.{◌≡◌, ◌*◌, ◌<◌, ◌≤◌, length};
 ghost use Rattle.block.specs.Ranges.{Ranged, RangedList, RangedTempo};
-ghost use Rattle.format.specs.Structs.{Filled, Sound, list_of, tempoOf, block_of};
+ghost use Rattle.format.specs.Structs.{Filled, Sound, list_of, tempo_of, block_of};
 ghost use Rattle.block_cost.specs.Cost as Cost;
 
 use block_floats::whole;
@@ -11,7 +11,7 @@ use vector::fill;
 // a[k] += v
 fn plus_at(a: &mut [f64], k: usize, v: f64)
     requires { k < length a.old }
-    ensures { a.new ≡ Cost.plusAt a.old k v }
+    ensures { a.new ≡ Cost.plus_at a.old k v }
 {
     a[k] = a[k] + v;
 }
@@ -21,7 +21,7 @@ fn add_row(l: Pairs, n: usize, i: usize, w: f64, q: &mut [f64])
     requires filled { Filled l }
     requires ranged_list { RangedList n (list_of l) }
     requires i_lt_n { (i < n) × (n ≤ 32) × (length q.old ≡ n * n) }
-    ensures { q.new ≡ Cost.addRow n (list_of l) i w q.old }
+    ensures { q.new ≡ Cost.add_row n (list_of l) i w q.old }
 {
     let count = l.count;
     for k in 0..count {
@@ -34,9 +34,9 @@ fn add_row(l: Pairs, n: usize, i: usize, w: f64, q: &mut [f64])
 // A tempo's products.
 fn add_products(t: Tempo, n: usize, q: &mut [f64])
     requires filled { Filled t.list }
-    requires ranged_tempo { RangedTempo n (tempoOf t) }
+    requires ranged_tempo { RangedTempo n (tempo_of t) }
     requires n_bound { (n ≤ 32) × (length q.old ≡ n * n) }
-    ensures { q.new ≡ Cost.addProducts n (tempoOf t) q.old }
+    ensures { q.new ≡ Cost.add_products n (tempo_of t) q.old }
 {
     let l = t.list;
     let count = l.count;
@@ -67,8 +67,8 @@ pub fn hessian(b: Block, q: &mut [f64])
 // What a tempo adds to c.
 fn add_targets(t: Tempo, c: &mut [f64])
     requires filled { Filled t.list }
-    requires ranged_tempo { RangedTempo (length c.old) (tempoOf t) }
-    ensures { c.new ≡ Cost.addTargets (tempoOf t) c.old }
+    requires ranged_tempo { RangedTempo (length c.old) (tempo_of t) }
+    ensures { c.new ≡ Cost.add_targets (tempo_of t) c.old }
 {
     let l = t.list;
     let count = l.count;

@@ -6,12 +6,12 @@ use Rattle.std.specs.Float.{nan, binary64}
 use Rattle.std.specs.Float.Ieee.{in_float, of_int, of_bits}
 use Rattle.std.specs.Int.{w64}
 use Rattle.folds.specs.Fold.{fold, tab}
-use Rattle.folds.specs.Tab.{tab-end, tab-same, tab-all}
+use Rattle.folds.specs.Tab.{tab_end, tab-same, tab-all}
 use Rattle.ints.specs.Bound.{◌≼◌, loose}
 use Rattle.ints.specs.Held.{cell, read}
 use Rattle.arith.specs.Float.{f0}
 use Rattle.vector.specs.Vector.{filled}
-use Rattle.vector.specs.Laws.{length-filled, filled_at}
+use Rattle.vector.specs.Laws.{length-filled, filled-at}
 use Rattle.nearest.specs.Value.{fromℤ}
 use Rattle.block.specs.Block.{Item, item}
 use Rattle.block.specs.Ranges.{Short}
@@ -21,21 +21,21 @@ use Rattle.format.specs.declared.Pairs.{Pairs}
 use Rattle.exact.specs.Entries.{pair-coef}
 
 -- a list that k stores filled, of which entry i of n is h i too
-pub filled-by : {A : Type 0} {s : List A} (o : List A) (k n m : ℕ) (g h : ℕ → A) → m ≡ n → ((i : ℕ) → i < n → g i ≡ h i) → k ≤ n → n ≤ k →
+pub filled_by : {A : Type 0} {s : List A} (o : List A) (k n m : ℕ) (g h : ℕ → A) → m ≡ n → ((i : ℕ) → i < n → g i ≡ h i) → k ≤ n → n ≤ k →
     length o ≡ n → s ≡ fold k (λ i l. set l i (g i)) o → s ≡ tab m h
-filled-by o k n m g h e f p q l t = rw e (tab-end k n g o p q l t ∙ tab-same n g h f)
+filled_by o k n m g h e f p q l t = rw e (tab_end k n g o p q l t ∙ tab-same n g h f)
 
 pub zeros : (n : ℕ) → filled n f0 ≡ tab n (λ _. fromℤ (pos 0))
-zeros n = sym (tab-all nan n (filled n f0) (length-filled n f0)) ∙ tab-same n _ _ (λ i h. filled_at n i h f0 ∙ from_zero)
+zeros n = sym (tab-all nan n (filled n f0) (length-filled n f0)) ∙ tab-same n _ _ (λ i h. filled-at n i h f0 ∙ from-zero)
   where
-    from_zero : f0 ≡ fromℤ (pos 0)
-    from_zero = unfold of_int of_bits in refl
+    from-zero : f0 ≡ fromℤ (pos 0)
+    from-zero = unfold of_int of_bits in refl
 
 -- ---- a number in its range loses nothing as a float
-pub in-float : (z : ℤ) → z ≼ 8388608 → T (in_float binary64 z)
+pub in_float : (z : ℤ) → z ≼ 8388608 → T (in_float binary64 z)
 unfolding in_float
-in-float (pos n) h = le→leb n _ (le_trans h.size (lit≤ tt))
-in-float (negsuc n) h = lt→ltb n _ (le_trans h.size (lit≤ tt))
+in_float (pos n) h = le→leb n _ (le_trans h.size (lit≤ tt))
+in_float (negsuc n) h = lt→ltb n _ (le_trans h.size (lit≤ tt))
 
 -- ---- pair k, as the code reads it
 module _ {l : Pairs} (F : Filled l) {k : ℕ} (h : k < l.count) where

@@ -10,7 +10,7 @@ unfoldable pub end_of : SpanEnd → Span → ℤ
 end_of End.Lower s = s.lower
 end_of End.Upper s = s.upper
 
-pub end-b : (which : SpanEnd) {n : ℕ} {s : Span} → RangedSpan n s → end_of which s ≼ 8388608
+pub end_b : (which : SpanEnd) {n : ℕ} {s : Span} → RangedSpan n s → end_of which s ≼ 8388608
 unfolding end_of
-end-b End.Lower r = record { size = r.lower }
-end-b End.Upper r = record { size = r.upper }
+end_b End.Lower r = record { size = r.lower }
+end_b End.Upper r = record { size = r.upper }

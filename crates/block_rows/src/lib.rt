@@ -1,7 +1,7 @@
 // The rows of a block that the engine gets, its anchors and spans with their values and ends, as floats. The definitions are specs/Rows.antt;
 // matrices are stored column after column.
 ghost use Rattle.std.specs.Prelude.{◌≡◌, ◌+◌, ◌*◌, ◌≤◌, length};
-ghost use Rattle.folds.specs.Part.{withPart};
+ghost use Rattle.folds.specs.Part.{with_part};
 ghost use Rattle.block.specs.Ranges.{Ranged, RangedList};
 ghost use Rattle.format.specs.Structs.{Filled, Sound, list_of, span_of, block_of};
 ghost use Rattle.block_rows.specs.Ends as Ends;
@@ -31,7 +31,7 @@ fn put_column(l: Pairs, n: usize, k: usize, a: &mut [f64])
     requires filled { Filled l }
     requires ranged_list { RangedList n (list_of l) }
     requires n_in_bounds { n + k * n ≤ length a.old }
-    ensures { a.new ≡ withPart (k * n) (n + k * n) a.old (Rows.column n (list_of l)) }
+    ensures { a.new ≡ with_part (k * n) (n + k * n) a.old (Rows.column n (list_of l)) }
 {
     let start = k * n;
     let end = n + start;
@@ -43,7 +43,7 @@ pub fn anchor_columns(b: Block, e: &mut [f64])
     requires sound { Sound b }
     requires ranged { Ranged (block_of b) }
     requires e_len { length e.old ≡ b.words * b.anchors }
-    ensures { e.new ≡ Rows.anchorColumns (block_of b) }
+    ensures { e.new ≡ Rows.anchor_columns (block_of b) }
 {
     let n = b.words;
     let m = b.anchors;
@@ -58,7 +58,7 @@ pub fn anchor_values(b: Block, y: &mut [f64])
     requires sound { Sound b }
     requires ranged { Ranged (block_of b) }
     requires y_len { length y.old ≡ b.anchors }
-    ensures { y.new ≡ Rows.anchorValues (block_of b) }
+    ensures { y.new ≡ Rows.anchor_values (block_of b) }
 {
     let m = b.anchors;
     for k in 0..m {
@@ -72,7 +72,7 @@ pub fn span_columns(b: Block, a: &mut [f64])
     requires sound { Sound b }
     requires ranged { Ranged (block_of b) }
     requires a_len { length a.old ≡ b.words * b.spans }
-    ensures { a.new ≡ Rows.spanColumns (block_of b) }
+    ensures { a.new ≡ Rows.span_columns (block_of b) }
 {
     let n = b.words;
     let r = b.spans;
@@ -104,7 +104,7 @@ fn each_span(b: Block, which: SpanEnd, y: &mut [f64])
     requires sound { Sound b }
     requires ranged { Ranged (block_of b) }
     requires y_len { length y.old ≡ b.spans }
-    ensures { y.new ≡ Rows.eachSpan (Ends.end_of which) (block_of b) }
+    ensures { y.new ≡ Rows.each_span (Ends.end_of which) (block_of b) }
 {
     let r = b.spans;
     for k in 0..r {
@@ -117,7 +117,7 @@ pub fn span_lowers(b: Block, y: &mut [f64])
     requires sound { Sound b }
     requires ranged { Ranged (block_of b) }
     requires y_len { length y.old ≡ b.spans }
-    ensures { y.new ≡ Rows.spanLowers (block_of b) }
+    ensures { y.new ≡ Rows.span_lowers (block_of b) }
 {
     each_span(b, SpanEnd::Lower, y);
 }
@@ -126,7 +126,7 @@ pub fn span_uppers(b: Block, y: &mut [f64])
     requires sound { Sound b }
     requires ranged { Ranged (block_of b) }
     requires y_len { length y.old ≡ b.spans }
-    ensures { y.new ≡ Rows.spanUppers (block_of b) }
+    ensures { y.new ≡ Rows.span_uppers (block_of b) }
 {
     each_span(b, SpanEnd::Upper, y);
 }

@@ -4,7 +4,7 @@ ghost use Rattle.std.specs.Prelude.{◌≡◌};
 ghost use Rattle.block.specs.Ranges.{Ranged};
 ghost use Rattle.format.specs.Structs.{Sound, block_of};
 ghost use Rattle.quadratic.specs.Quadratic.{quadratic};
-ghost use Rattle.block_solve.specs.Solve.{quadraticOf, Solves, Matrices, Words};
+ghost use Rattle.block_solve.specs.Solve.{quadratic_of, Solves, Matrices, Words};
 
 use format::Block;
 
@@ -45,7 +45,7 @@ fn engine(
 ) -> Solved
     requires sound { Sound block }
     requires start_value { quadratic block.words block.anchors block.spans q.now c.now e.now b.now lower.now upper.now a.now
-        row_lower.now row_upper.now at.now slopes.now start.now ≡ quadraticOf (block_of block) }
+        row_lower.now row_upper.now at.now slopes.now start.now ≡ quadratic_of (block_of block) }
     ensures { Solves block result }
 {
     let n = block.words;

@@ -28,7 +28,7 @@ fn move_and_block(
         × Entries (length indices.now) x_free.now direction.now lower.now upper.now
         × (k < length indices.now) }
     ensures { result
-        ≡ BlockedStep.moveAndBlock segments indices.now x_free.now direction.now lower.now
+        ≡ BlockedStep.move_and_block segments indices.now x_free.now direction.now lower.now
         upper.now step k side released board }
 {
     let mut x = board.x;
@@ -61,8 +61,8 @@ pub fn blocked_pass(
         × Entries (length indices.now) x_free.now direction.now lower.now upper.now
         × (k < length indices.now) }
     ensures leaves { Leaves result
-        (BlockedStep.blockedPass iterate
-        (BlockedStep.moveAndBlock segments indices.now x_free.now direction.now lower.now
+        (BlockedStep.blocked_pass iterate
+        (BlockedStep.move_and_block segments indices.now x_free.now direction.now lower.now
         upper.now step k side iterate.released iterate.board)) }
     ensures keeps { BlockedStep.Keeps indices.now segments iterate result }
 {

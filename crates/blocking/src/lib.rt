@@ -1,7 +1,7 @@
 // qp.rs, `block`: a variable that reached an end of its segment is held there, and which variables are refused.
 ghost use Rattle.std.specs.Prelude.{◌≡◌, ◌<◌};
 ghost use Rattle.sizes.specs.Sizes as Sizes;
-ghost use Rattle.segments.specs.Segments.{Cut, IsFree, Placed, stateAt};
+ghost use Rattle.segments.specs.Segments.{Cut, IsFree, Placed, state_at};
 ghost use Rattle.blocking.specs.Blocking as Blocking;
 ghost use Rattle.blocking.specs.Blocking.{Blocked};
 
@@ -25,7 +25,7 @@ pub struct Board {
 
 fn end_point(j: usize, side: Side) -> usize
     requires { j < 2 }
-    ensures { result ≡ Blocking.endPoint j side }
+    ensures { result ≡ Blocking.end_point j side }
 {
     match side {
         Side::Lower => j,
@@ -34,7 +34,7 @@ fn end_point(j: usize, side: Side) -> usize
 }
 
 fn just_released(released: Released, i: usize) -> bool
-    ensures { result ≡ Blocking.justReleased released i }
+    ensures { result ≡ Blocking.just_released released i }
 {
     let Released::One(k) = released else {
         return false;
@@ -72,7 +72,7 @@ pub fn block(
     step: f64,
     released: Released,
 ) -> Board
-    requires { (i < Sizes.variables) × Cut s × IsFree (stateAt board.state i) × Placed s (stateAt board.state i) }
+    requires { (i < Sizes.variables) × Cut s × IsFree (state_at board.state i) × Placed s (state_at board.state i) }
     ensures { Blocked i side s step released board result }
 {
     let spot = board.state[i];

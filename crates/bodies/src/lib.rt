@@ -1,14 +1,14 @@
 // The body of each field: its verdict, and what it holds. The definitions are format's specs/Read.antt.
 ghost use Rattle.std.specs.Prelude.{◌≡◌, ◌≤◌};
-ghost use Rattle.block.specs.Ranges.{maxPairs};
+ghost use Rattle.block.specs.Ranges.{max_pairs};
 ghost use Rattle.format.specs.Read as Read;
-ghost use Rattle.format.specs.Structs.{word_of, pair_of, list_of, tempoOf, anchorOf, span_of, Filled};
+ghost use Rattle.format.specs.Structs.{word_of, pair_of, list_of, tempo_of, anchor_of, span_of, Filled};
 
 use format::{Anchor, Pair, Pairs, Span, Tempo, Verdict, Word};
 
 // The word number of pair i is above that of the pair before it.
 pub fn rises(b: &[u8], p: usize, i: usize) -> bool
-    requires { (p ≤ 8) × (i ≤ maxPairs) }
+    requires { (p ≤ 8) × (i ≤ max_pairs) }
     ensures { result ≡ Read.rises b.now p i }
 {
     if i == 0 {
@@ -18,8 +18,8 @@ pub fn rises(b: &[u8], p: usize, i: usize) -> bool
 }
 
 pub fn pair_verdict(b: &[u8], p: usize, words: u64, i: usize) -> Verdict
-    requires { (p ≤ 8) × (i ≤ maxPairs) }
-    ensures { result ≡ Read.pairVerdict b.now p words i }
+    requires { (p ≤ 8) × (i ≤ max_pairs) }
+    ensures { result ≡ Read.pair_verdict b.now p words i }
 {
     if words <= numbers::byte_at(b, p + 2 * i + 1) {
         return Verdict::BadList;
@@ -38,8 +38,8 @@ pub fn pair_verdict(b: &[u8], p: usize, words: u64, i: usize) -> Verdict
 }
 
 pub fn list_verdict(b: &[u8], p: usize, words: u64, count: usize) -> Verdict
-    requires { (p ≤ 8) × (count ≤ maxPairs) }
-    ensures { result ≡ Read.listVerdict b.now p words count }
+    requires { (p ≤ 8) × (count ≤ max_pairs) }
+    ensures { result ≡ Read.list_verdict b.now p words count }
 {
     if numbers::byte_at(b, p) != (count as u64) {
         return Verdict::BadList;
@@ -54,8 +54,8 @@ pub fn list_verdict(b: &[u8], p: usize, words: u64, count: usize) -> Verdict
 }
 
 pub fn pair_from(b: &[u8], p: usize, i: usize) -> Pair
-    requires { (p ≤ 8) × (i ≤ maxPairs) }
-    ensures { pair_of result ≡ Read.pairFrom b.now p i }
+    requires { (p ≤ 8) × (i ≤ max_pairs) }
+    ensures { pair_of result ≡ Read.pair_from b.now p i }
 {
     let word = numbers::byte_at(b, p + 2 * i + 1);
     let coef = numbers::i8_at(b, p + 2 * i + 2);
@@ -66,7 +66,7 @@ pub fn pair_from(b: &[u8], p: usize, i: usize) -> Pair
 }
 
 pub fn list_from(b: &[u8], p: usize, count: usize) -> Pairs
-    requires { (p ≤ 8) × (count ≤ maxPairs) }
+    requires { (p ≤ 8) × (count ≤ max_pairs) }
     ensures { (list_of result ≡ Read.list_from b.now p count) × Filled result }
 {
     let p0 = pair_from(b, p, 0);
@@ -80,7 +80,7 @@ pub fn list_from(b: &[u8], p: usize, count: usize) -> Pairs
 }
 
 pub fn word_verdict(b: &[u8]) -> Verdict
-    ensures { result ≡ Read.wordVerdict b.now }
+    ensures { result ≡ Read.word_verdict b.now }
 {
     let lower = numbers::u32_at(b, 0);
     if format::MAX_TIME < lower {
@@ -106,7 +106,7 @@ pub fn word_verdict(b: &[u8]) -> Verdict
 }
 
 pub fn word_from(b: &[u8]) -> Word
-    ensures { word_of result ≡ Read.wordFrom b.now }
+    ensures { word_of result ≡ Read.word_from b.now }
 {
     let lower = numbers::u32_at(b, 0);
     let upper = numbers::u32_at(b, 4);
@@ -123,8 +123,8 @@ pub fn word_from(b: &[u8]) -> Word
 }
 
 pub fn tempo_verdict(b: &[u8], words: u64, count: usize) -> Verdict
-    requires { count ≤ maxPairs }
-    ensures { result ≡ Read.tempoVerdict b.now words count }
+    requires { count ≤ max_pairs }
+    ensures { result ≡ Read.tempo_verdict b.now words count }
 {
     let weight = numbers::u16_at(b, 0);
     if weight < 1 {
@@ -140,8 +140,8 @@ pub fn tempo_verdict(b: &[u8], words: u64, count: usize) -> Verdict
 }
 
 pub fn tempo_from(b: &[u8], count: usize) -> Tempo
-    requires { count ≤ maxPairs }
-    ensures { (tempoOf result ≡ Read.tempoFrom b.now count) × Filled result.list }
+    requires { count ≤ max_pairs }
+    ensures { (tempo_of result ≡ Read.tempo_from b.now count) × Filled result.list }
 {
     let weight = numbers::u16_at(b, 0);
     let target = numbers::i32_at(b, 2);
@@ -154,8 +154,8 @@ pub fn tempo_from(b: &[u8], count: usize) -> Tempo
 }
 
 pub fn anchor_verdict(b: &[u8], words: u64, count: usize) -> Verdict
-    requires { count ≤ maxPairs }
-    ensures { result ≡ Read.anchorVerdict b.now words count }
+    requires { count ≤ max_pairs }
+    ensures { result ≡ Read.anchor_verdict b.now words count }
 {
     if numbers::i32_size_up_to(format::MAX_SUM, b, 0) {
         return list_verdict(b, 4, words, count);
@@ -164,8 +164,8 @@ pub fn anchor_verdict(b: &[u8], words: u64, count: usize) -> Verdict
 }
 
 pub fn anchor_from(b: &[u8], count: usize) -> Anchor
-    requires { count ≤ maxPairs }
-    ensures { (anchorOf result ≡ Read.anchorFrom b.now count) × Filled result.list }
+    requires { count ≤ max_pairs }
+    ensures { (anchor_of result ≡ Read.anchor_from b.now count) × Filled result.list }
 {
     let value = numbers::i32_at(b, 0);
     let list = list_from(b, 4, count);
@@ -176,8 +176,8 @@ pub fn anchor_from(b: &[u8], count: usize) -> Anchor
 }
 
 pub fn span_verdict(b: &[u8], words: u64, count: usize) -> Verdict
-    requires { count ≤ maxPairs }
-    ensures { result ≡ Read.spanVerdict b.now words count }
+    requires { count ≤ max_pairs }
+    ensures { result ≡ Read.span_verdict b.now words count }
 {
     if numbers::i32_size_up_to(format::MAX_SUM, b, 0) {
         if numbers::i32_size_up_to(format::MAX_SUM, b, 4) {
@@ -196,8 +196,8 @@ pub fn span_verdict(b: &[u8], words: u64, count: usize) -> Verdict
 }
 
 pub fn span_from(b: &[u8], count: usize) -> Span
-    requires { count ≤ maxPairs }
-    ensures { (span_of result ≡ Read.spanFrom b.now count) × Filled result.list }
+    requires { count ≤ max_pairs }
+    ensures { (span_of result ≡ Read.span_from b.now count) × Filled result.list }
 {
     let lower = numbers::i32_at(b, 0);
     let upper = numbers::i32_at(b, 4);
@@ -210,7 +210,7 @@ pub fn span_from(b: &[u8], count: usize) -> Span
 }
 
 pub fn cap_verdict(b: &[u8]) -> Verdict
-    ensures { result ≡ Read.capVerdict b.now }
+    ensures { result ≡ Read.cap_verdict b.now }
 {
     if format::MAX_SUM < numbers::u32_at(b, 0) {
         return Verdict::OutOfRange;

@@ -1,10 +1,10 @@
 // How far a plan misses a block's anchors and spans, and the test of a written plan against its bounds. The definitions are `block`'s.
 ghost use Rattle.std.specs.Prelude.{◌≡◌, length};
 ghost use Rattle.ints.specs.Bound.{◌≼◌};
-ghost use Rattle.block.specs.Keeps.{anchorMiss, outside, spanMiss, windowKept, coefSizes, missBounded};
-ghost use Rattle.block.specs.Keeps.{windowsKept, movesBounded, anchorsBounded, spansBounded, bounded};
+ghost use Rattle.block.specs.Keeps.{anchor_miss, outside, span_miss, window_kept, coef_sizes, miss_bounded};
+ghost use Rattle.block.specs.Keeps.{windows_kept, moves_bounded, anchors_bounded, spans_bounded, bounded};
 ghost use Rattle.block.specs.Ranges.{Short, RangedAnchor, RangedSpan, RangedWord, Timed};
-ghost use Rattle.format.specs.Structs.{Filled, word_of, list_of, anchorOf, span_of, block_of};
+ghost use Rattle.format.specs.Structs.{Filled, word_of, list_of, anchor_of, span_of, block_of};
 ghost use Rattle.exact.specs.Planned.{Planned};
 
 use exact::{abs, list_sum, moves, time_at};
@@ -13,9 +13,9 @@ use format::{Anchor, Block, Pair, Pairs, Span, Word};
 // An anchor's miss is |sum - value|.
 pub fn anchor_miss(a: Anchor, times: &[i32]) -> i64
     requires filled { Filled a.list }
-    requires ranged_anchor { RangedAnchor (length times.now) (anchorOf a) }
+    requires ranged_anchor { RangedAnchor (length times.now) (anchor_of a) }
     requires timed { Timed (length times.now) times.now }
-    ensures { result ≡ anchorMiss (anchorOf a) times.now }
+    ensures { result ≡ anchor_miss (anchor_of a) times.now }
 {
     let l = a.list;
     abs(list_sum(l, times) - a.value)
@@ -40,7 +40,7 @@ pub fn span_miss(s: Span, times: &[i32]) -> i64
     requires filled { Filled s.list }
     requires ranged_span { RangedSpan (length times.now) (span_of s) }
     requires timed { Timed (length times.now) times.now }
-    ensures { result ≡ spanMiss (span_of s) times.now }
+    ensures { result ≡ span_miss (span_of s) times.now }
 {
     let l = s.list;
     outside(s.lower, s.upper, list_sum(l, times))
@@ -50,7 +50,7 @@ pub fn span_miss(s: Span, times: &[i32]) -> i64
 fn coef_sizes(l: Pairs) -> i64
     requires filled { Filled l }
     requires short { Short (list_of l) }
-    ensures { result ≡ coefSizes (list_of l) }
+    ensures { result ≡ coef_sizes (list_of l) }
 {
     let mut sum: i64 = 0;
     let n = l.count;
@@ -66,7 +66,7 @@ fn miss_bounded(miss: i64, l: Pairs) -> bool
     requires miss { miss ≼ 16777216 }
     requires filled { Filled l }
     requires short { Short (list_of l) }
-    ensures { result ≡ missBounded miss (list_of l) }
+    ensures { result ≡ miss_bounded miss (list_of l) }
 {
     2 * miss <= coef_sizes(l)
 }
@@ -75,7 +75,7 @@ fn miss_bounded(miss: i64, l: Pairs) -> bool
 fn window_kept(w: Word, t: i64) -> bool
     requires ranged_word { RangedWord (word_of w) }
     requires t { t ≼ 262144 }
-    ensures { result ≡ windowKept (word_of w) t }
+    ensures { result ≡ window_kept (word_of w) t }
 {
     if w.lower as i64 <= t {
         return t <= w.upper as i64;
@@ -85,7 +85,7 @@ fn window_kept(w: Word, t: i64) -> bool
 
 fn windows_kept(b: Block, times: &[i32]) -> bool
     requires { Planned b times.now }
-    ensures { result ≡ windowsKept (block_of b) times.now }
+    ensures { result ≡ windows_kept (block_of b) times.now }
 {
     let n = b.words;
     for i in 0..n {
@@ -100,7 +100,7 @@ fn windows_kept(b: Block, times: &[i32]) -> bool
 // 2 × (moves - cap) is at most the number of words.
 fn moves_bounded(b: Block, times: &[i32]) -> bool
     requires { Planned b times.now }
-    ensures { result ≡ movesBounded (block_of b) times.now }
+    ensures { result ≡ moves_bounded (block_of b) times.now }
 {
     let m = moves(b, times);
     2 * (m - (b.cap as i64)) <= b.words as i64
@@ -108,7 +108,7 @@ fn moves_bounded(b: Block, times: &[i32]) -> bool
 
 fn anchors_bounded(b: Block, times: &[i32]) -> bool
     requires { Planned b times.now }
-    ensures { result ≡ anchorsBounded (block_of b) times.now }
+    ensures { result ≡ anchors_bounded (block_of b) times.now }
 {
     let n = b.anchors;
     for k in 0..n {
@@ -123,7 +123,7 @@ fn anchors_bounded(b: Block, times: &[i32]) -> bool
 
 fn spans_bounded(b: Block, times: &[i32]) -> bool
     requires { Planned b times.now }
-    ensures { result ≡ spansBounded (block_of b) times.now }
+    ensures { result ≡ spans_bounded (block_of b) times.now }
 {
     let n = b.spans;
     for k in 0..n {

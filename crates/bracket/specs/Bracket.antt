@@ -22,10 +22,10 @@ bracket_of n w b = record {
 }
 
 -- `let mut low = 0.0`, `let mut high = first`, `for step in 0..`; w multipliers, and no solution is accepted yet
-unfoldable pub new : (w : ℕ) (lowValue : Float) (warm : List Float) (first : Float) → Bracket
-new w lowValue warm first = record {
+unfoldable pub new : (w : ℕ) (low_value : Float) (warm : List Float) (first : Float) → Bracket
+new w low_value warm first = record {
   low = f0;
-  low_value = lowValue;
+  low_value = low_value;
   middle = f0;
   high = first;
   high_value = f0;
@@ -97,8 +97,8 @@ double b = record {
 }
 
 -- a middle, and the step's number is even where it was odd
-abbrev at-middle : Float → Bracket → Bracket
-at-middle m b = record {
+abbrev at_middle : Float → Bracket → Bracket
+at_middle m b = record {
   low = b.low;
   low_value = b.low_value;
   middle = m;
@@ -114,14 +114,14 @@ at-middle m b = record {
 -- `low + (low_value - limit) / (low_value - high_value) * (high - low)`
 unfoldable pub secant : (limit : Float) → Bracket → Bracket
 secant limit b =
-    at-middle
+    at_middle
     (fadd b.low
     (fmul (fdiv (fsub b.low_value limit) (fsub b.low_value b.high_value)) (fsub b.high b.low)))
     b
 
 -- `low + (high - low) / 2.0`
 unfoldable pub halve : Bracket → Bracket
-halve b = at-middle (middle b.low b.high) b
+halve b = at_middle (middle b.low b.high) b
 
 -- `secant > low && secant < high`
 unfoldable pub inside : Bracket → Bool

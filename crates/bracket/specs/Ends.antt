@@ -6,12 +6,12 @@ use Rattle.std.proofs.Common.{sym, subst}
 use Rattle.std.proofs.Math.Bool.{true, false}
 use Rattle.std.specs.Float.Ieee.{binary64, fits, lt, le}
 use Rattle.std.specs.Float.Ieee.Fits.{add-fits}
-use Rattle.folds.specs.Fold.{pick, false-true}
+use Rattle.folds.specs.Fold.{pick, false_true}
 use Rattle.arith.specs.Float.{f0}
 use Rattle.arith.specs.Order.{upward, upward-above, between}
-use Rattle.arith.specs.Double.{zero-upward, halfMax, doublings}
+use Rattle.arith.specs.Double.{zero-upward, half_max, doublings}
 use Rattle.arith.specs.Middle.{middle-upward, middle-fits}
-use Rattle.arith.specs.Ends.{Ends, first_ends, double-ends, double-falls, lower-part, upper-part}
+use Rattle.arith.specs.Ends.{Ends, first-ends, double-ends, double_falls, lower-part, upper-part}
 use Rattle.bracket.specs.declared.Bracket.{Bracket}
 use Rattle.bracket.specs.Bracket.{new, exceed, accept, warmed, double, secant, halve, inside, cut, closed}
 
@@ -41,7 +41,7 @@ width b = between b.low b.high
 module _ (w : ℕ) (value : Float) (warm : List Float) (first : Float) (h : lt f0 first ≡ true) where
   pub new-held : T (fits binary64 first) → Held (new w value warm first)
   unfolding new
-  new-held g = first_ends first g h
+  new-held g = first-ends first g h
 
   pub new-rising : Rising (new w value warm first)
   unfolding new
@@ -56,14 +56,14 @@ pub warmed-high : (x : List Float) (b : Bracket) → (warmed x b).high ≡ b.hig
 unfolding warmed
 warmed-high x b = refl
 
-module _ (value : Float) (warm : List Float) (b : Bracket) (v : Held b) (h : lt halfMax b.high ≡ false) where
+module _ (value : Float) (warm : List Float) (b : Bracket) (v : Held b) (h : lt half_max b.high ≡ false) where
   pub double-held : Held (double (exceed b.high value b)) × (ups (double (exceed b.high value b)) < ups b)
   unfolding double exceed
-  double-held = (double-ends b.low b.high v h, double-falls b.low b.high v h)
+  double-held = (double-ends b.low b.high v h, double_falls b.low b.high v h)
 
   pub double-warmed : Held (double (warmed warm (exceed b.high value b))) × (ups (double (warmed warm (exceed b.high value b))) < ups b)
   unfolding double exceed warmed
-  double-warmed = (double-ends b.low b.high v h, double-falls b.low b.high v h)
+  double-warmed = (double-ends b.low b.high v h, double_falls b.low b.high v h)
 
 -- ---- cutting
 pub accept-held : (at value : Float) (x multipliers : List Float) (passes : ℕ) (b : Bracket) → Ends b.low at →
@@ -85,7 +85,7 @@ inside-over b h = go (lt b.low b.middle) (lt b.middle b.high) h
   where
     go : (p q : Bool) → pick p q false ≡ true → p ≡ true
     go true q h = refl
-    go false q h = absurd (false-true (unfold pick in h))
+    go false q h = absurd (false_true (unfold pick in h))
 
 module _ (b : Bracket) (v : Held b) where
   halved : Middled b (halve b)
@@ -113,12 +113,12 @@ module _ (b : Bracket) (v : Held b) where
       go false q e = unfold pick in halved
 
   -- the part on either side of a middle that the tests pass
-  open-between : (t : Bracket) → closed t ≡ false → (le t.middle t.low ≡ false) × (le t.high t.middle ≡ false)
+  open_between : (t : Bracket) → closed t ≡ false → (le t.middle t.low ≡ false) × (le t.high t.middle ≡ false)
   unfolding closed
-  open-between t h = go (le t.middle t.low) (le t.high t.middle) h
+  open_between t h = go (le t.middle t.low) (le t.high t.middle) h
     where
       go : (p q : Bool) → pick p true q ≡ false → (p ≡ false) × (q ≡ false)
-      go true q h = absurd (false-true (sym (unfold pick in h)))
+      go true q h = absurd (false_true (sym (unfold pick in h)))
       go false q h = (refl, unfold pick in h)
 
   module _ (limit : Float) (c : closed (cut limit b) ≡ false) where
@@ -130,7 +130,7 @@ module _ (b : Bracket) (v : Held b) where
     unfolding accept
     cut-accept value x multipliers passes =
         let m = middled limit in
-        let o = open-between t c in
+        let o = open_between t c in
         rw m.low_same
         (lower-part b.low b.high v t.middle m.held m.up (rw m.low_same at o.0) (rw m.high_same at o.1))
 
@@ -138,6 +138,6 @@ module _ (b : Bracket) (v : Held b) where
     unfolding exceed
     cut-exceed value =
         let m = middled limit in
-        let o = open-between t c in
+        let o = open_between t c in
         rw m.high_same
         (upper-part b.low b.high v t.middle m.held m.up (rw m.low_same at o.0) (rw m.high_same at o.1))

@@ -58,9 +58,9 @@ module _ (n w : ℕ) where
     unfolding double
     of-double = refl
 
-    of_cut : (limit : Float) → bracket_of n w (cut limit b) ≡ cut limit (bracket_of n w b)
+    of-cut : (limit : Float) → bracket_of n w (cut limit b) ≡ cut limit (bracket_of n w b)
     unfolding cut secant halve inside
-    of_cut limit = go b.even (inside (secant limit b))
+    of-cut limit = go b.even (inside (secant limit b))
       where
         go : (p q : Bool) → bracket_of n w (pick p (pick q (secant limit b) (halve b)) (halve b))
             ≡ pick p (pick q (secant limit (bracket_of n w b)) (halve (bracket_of n w b))) (halve (bracket_of n w b))
@@ -74,8 +74,8 @@ module _ (n w : ℕ) where
 
   -- the cut that the code made
   module _ (b t : Bracket) (limit : Float) (e : t ≡ cut limit b) where
-    pub cut_of : bracket_of n w t ≡ cut limit (bracket_of n w b)
-    cut_of = ap (bracket_of n w) e ∙ of_cut b limit
+    pub cut-of : bracket_of n w t ≡ cut limit (bracket_of n w b)
+    cut-of = ap (bracket_of n w) e ∙ of-cut b limit
 
     pub cut-closed : closed (cut limit (bracket_of n w b)) ≡ closed t
-    cut-closed = ap closed (sym cut_of) ∙ of-closed t
+    cut-closed = ap closed (sym cut-of) ∙ of-closed t

@@ -7,18 +7,18 @@ use Rattle.folds.specs.Fold.{fold, all, both, pick}
 use Rattle.ints.specs.Diff.{minℤ, maxℤ}
 use Rattle.ints.specs.Sum.{Σ}
 use Rattle.block.specs.Block.{Block, Word, Item}
-use Rattle.block.specs.Plan.{sum_of, move, moves, bend, squareOf, squares, bends, cost}
-use Rattle.block.specs.Keeps.{Keeps, windowKept, windowsKept}
-use Rattle.block.specs.Gap.{Prices, coefOf, slopeOf, g, anchorPart, spanPart, h, line, candidates, leastFrom, least}
-use Rattle.block.specs.Gap.{wordGap, wordGapOf, wordGaps, values, ends, gap}
+use Rattle.block.specs.Plan.{sum_of, move, moves, bend, square_of, squares, bends, cost}
+use Rattle.block.specs.Keeps.{Keeps, window_kept, windows_kept}
+use Rattle.block.specs.Gap.{Prices, coef_of, slope_of, g, anchor_part, span_part, h, line, candidates, least_from, least}
+use Rattle.block.specs.Gap.{word_gap, word_gap_of, word_gaps, values, ends, gap}
 use Rattle.format.specs.Read.{Outcome, read}
-use Rattle.format.specs.Known.{known, knownFile, longest, word_bytes, knownWord, knownCap, repeated}
-use Rattle.format.specs.Known.{known_read, P5-accepted, P5-refused, P6-refused}
+use Rattle.format.specs.Known.{known, known_file, longest, word_bytes, known_word, known_cap, repeated}
+use Rattle.format.specs.Known.{known-read, P5-accepted, P5-refused, P6-refused}
 use Rattle.arith.specs.Float.{f0, f1, f2, sqrt}
 use Rattle.arith.specs.Known.{f4, P7}
 use Rattle.variable_set.specs.Joining.{joining, afresh}
-use Rattle.variable_set.specs.Known.{heldFive, listedSix, listedFive, P8}
-use Rattle.cases.specs.Kept.{fromTo, keeps, keeps-true}
+use Rattle.variable_set.specs.Known.{held_five, listed_six, listed_five, P8}
+use Rattle.cases.specs.Kept.{from_to, keeps, keeps_true}
 
 -- what a case says of: a whole number, a test, how a file is read, a float
 pub data Value : Type 0 where
@@ -56,7 +56,7 @@ prices a c = record { anchors = a; spans = []; cap = c }
 abbrev pub table : List Case
 table =
     -- (P1) "that block": what its file is read as
-    case 1 (file (read knownFile)) (file (Outcome.block known))
+    case 1 (file (read known_file)) (file (Outcome.block known))
     -- "that block with plan 50 and cap price 20: cost 400, moves 10, gap 0."
     ∷ case 1 (integer (cost known (plan 50))) (integer (pos 400))
     ∷ case 1 (integer (moves known (plan 50))) (integer (pos 10))
@@ -69,26 +69,26 @@ table =
     ∷ case 4 (truth (keeps (anchored (five ∷ []) 10 5) (plan 5))) (truth true)
     ∷ case 4 (integer (gap (anchored (five ∷ []) 10 5) (plan 5) (prices (pos 0 ∷ []) 0))) (integer (pos 0))
     -- (P5) "An upper of 262,144 is accepted, 262,145 gives 5."
-    ∷ case 5 (file (read (word_bytes 0 0 0 4 0 ++ knownCap))) (file (Outcome.block longest))
-    ∷ case 5 (file (read (word_bytes 0 1 0 4 0 ++ knownCap))) (file (Outcome.refused 5))
+    ∷ case 5 (file (read (word_bytes 0 0 0 4 0 ++ known_cap))) (file (Outcome.block longest))
+    ∷ case 5 (file (read (word_bytes 0 1 0 4 0 ++ known_cap))) (file (Outcome.refused 5))
     -- (P6) "33rd word gives 4."
-    ∷ case 6 (file (read (repeated 33 knownWord ++ knownCap))) (file (Outcome.refused 4))
+    ∷ case 6 (file (read (repeated 33 known_word ++ known_cap))) (file (Outcome.refused 4))
     -- (P7) "Root of 4 is 2; of −0, −0; of −1, NaN."
     ∷ case 7 (float (sqrt f4)) (float f2)
     ∷ case 7 (float (sqrt (neg f0))) (float (neg f0))
     ∷ case 7 (float (sqrt (neg f1))) (float nan)
     -- (P8) "Six listed, one joining: update; five listed: afresh."
-    ∷ case 8 (truth (afresh (joining heldFive listedSix) (length listedSix))) (truth false)
-    ∷ case 8 (truth (afresh (joining heldFive listedFive) (length listedFive))) (truth true)
+    ∷ case 8 (truth (afresh (joining held_five listed_six) (length listed_six))) (truth false)
+    ∷ case 8 (truth (afresh (joining held_five listed_five) (length listed_five))) (truth true)
     ∷ []
 
 pub P : map (λ c. c.found) table ≡ map (λ c. c.said) table
-unfolding fold all both pick Σ minℤ maxℤ sum_of move moves bend squareOf squares bends cost windowKept windowsKept
-    coefOf slopeOf g anchorPart spanPart h line candidates leastFrom least wordGap wordGapOf wordGaps values ends gap fromTo keeps
-P = rw (known_read, P5-accepted, P5-refused, P6-refused, P7.0, P7.1, P7.2, P8.0, P8.1)
+unfolding fold all both pick Σ minℤ maxℤ sum_of move moves bend square_of squares bends cost window_kept windows_kept
+    coef_of slope_of g anchor_part span_part h line candidates least_from least word_gap word_gap_of word_gaps values ends gap from_to keeps
+P = rw (known-read, P5-accepted, P5-refused, P6-refused, P7.0, P7.1, P7.2, P8.0, P8.1)
 
 -- (P4) by the definition: the row's test is true, so the plan keeps the block
 pub P4-keeps : Keeps (anchored (five ∷ []) 10 5) (plan 5)
 P4-keeps =
     let row : truth (keeps (anchored (five ∷ []) 10 5) (plan 5)) ≡ truth true = ap (λ l. get_or l 6 (truth true)) P in
-    keeps-true (anchored (five ∷ []) 10 5) (plan 5) (cc)
+    keeps_true (anchored (five ∷ []) 10 5) (plan 5) (cc)

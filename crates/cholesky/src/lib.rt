@@ -9,7 +9,7 @@ pub const PIVOT_FLOOR: f64 = 1.0 / 67_108_864.0;
 // The sum of the first j terms of row i times row j.
 fn rows_dot(a: &[f64], n: usize, i: usize, j: usize) -> f64
     requires { (n * n ≤ length a.now) × (i < n) × (j < n) }
-    ensures { result ≡ Cholesky.rowsDot j a.now n i j }
+    ensures { result ≡ Cholesky.rows_dot j a.now n i j }
 {
     let mut s = 0.0;
     for t in 0..j {
@@ -20,14 +20,14 @@ fn rows_dot(a: &[f64], n: usize, i: usize, j: usize) -> f64
 
 fn under_root(a: &[f64], n: usize, j: usize) -> f64
     requires { (n * n ≤ length a.now) × (j < n) }
-    ensures { result ≡ Cholesky.underRoot n j a.now }
+    ensures { result ≡ Cholesky.under_root n j a.now }
 {
     columns::get(a, n, n, j, j) - rows_dot(a, n, j, j)
 }
 
 fn factor_below(a: &mut [f64], n: usize, j: usize, r: f64)
     requires { (n * n ≤ length a.old) × (j < n) }
-    ensures { a.new ≡ Cholesky.factorBelow n j r a.old }
+    ensures { a.new ≡ Cholesky.factor_below n j r a.old }
 {
     columns::put(a, n, n, j, j, r);
     for i in j + 1..n {
@@ -39,7 +39,7 @@ fn factor_below(a: &mut [f64], n: usize, j: usize, r: f64)
 
 fn factor_column(a: &mut [f64], n: usize, j: usize) -> bool
     requires { (n * n ≤ length a.old) × (j < n) }
-    ensures { out result a.new ≡ Cholesky.factorColumn n j a.old }
+    ensures { out result a.new ≡ Cholesky.factor_column n j a.old }
 {
     let d = under_root(&a[..], n, j);
     if d > 0.0 {
@@ -65,7 +65,7 @@ pub fn cholesky(a: &mut [f64], n: usize) -> bool
 
 pub fn positive_definite(l: &[f64], n: usize) -> bool
     requires { n * n ≤ length l.now }
-    ensures { result ≡ Cholesky.positiveDefinite l.now n }
+    ensures { result ≡ Cholesky.positive_definite l.now n }
 {
     for i in 0..n {
         let p = columns::get(l, n, n, i, i);

@@ -15,9 +15,9 @@ unfoldable pub column : (n : ℕ) (a : List Float) (j : ℕ) → List Float
 column n a j = tab n (λ i. cell a n i j)
 
 -- the largest absolute value of each column
-unfoldable pub columnsAmax : (n m : ℕ) (a : List Float) → List Float
-columnsAmax n m a = tab m (λ j. amax n (column n a j))
+unfoldable pub columns_amax : (n m : ℕ) (a : List Float) → List Float
+columns_amax n m a = tab m (λ j. amax n (column n a j))
 
 -- a loop down column j of a matrix of n rows: its first k entries become g 0, .., g (k - 1)
-unfoldable pub putColumn : (k n j : ℕ) (g : ℕ → Float) (a : List Float) → List Float
-putColumn k n j g a = fold k (λ i l. put l n i j (g i)) a
+unfoldable pub put_column : (k n j : ℕ) (g : ℕ → Float) (a : List Float) → List Float
+put_column k n j g a = fold k (λ i l. put l n i j (g i)) a

@@ -31,7 +31,7 @@ pub fn column(a: &[f64], n: usize, m: usize, j: usize) -> &[f64]
 // y = the largest absolute value of each column of a (n by m).
 pub fn columns_amax(a: &[f64], n: usize, m: usize, y: &mut [f64])
     requires { (n * m ≤ length a.now) × (m ≤ length y.old) }
-    ensures { y.new ≡ over (Columns.columnsAmax n m a.now) y.old }
+    ensures { y.new ≡ over (Columns.columns_amax n m a.now) y.old }
 {
     for j in 0..m {
         y[j] = reductions::amax(column(a, n, m, j), n);

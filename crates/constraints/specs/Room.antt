@@ -8,21 +8,21 @@ use Rattle.sizes.specs.Sizes as Sizes
 pub record Room (n m : ℕ) (e coefficients range null : List Float) : Type 0 where
   pub few : n ≤ Sizes.originals
   pub columns : m ≤ Sizes.columns
-  pub e-holds : n * m ≤ length e
-  pub coefficients-room : n * m ≤ length coefficients
-  pub range-room : n * m ≤ length range
-  pub null-room : n * n ≤ length null
+  pub e_holds : n * m ≤ length e
+  pub coefficients_room : n * m ≤ length coefficients
+  pub range_room : n * m ≤ length range
+  pub null_room : n * n ≤ length null
 
 -- a matrix of min n m rows or columns is not larger
 pub rows_fit : {p : ℕ} (n m : ℕ) → p ≡ min n m → p * m ≤ n * m
 rows_fit n m e = area (omega arith) (le_refl m)
 
-pub columns-fit : (n m : ℕ) → n * min n m ≤ n * m
-columns-fit n m = area (le_refl n) (min-le_right n m)
+pub columns_fit : (n m : ℕ) → n * min n m ≤ n * m
+columns_fit n m = area (le_refl n) (min-le_right n m)
 
 -- nor are Y and Z, of as many columns as the rank and as n less the rank
 pub range-fits : {rank : ℕ} (n m : ℕ) → rank ≤ min n m → n * rank ≤ n * m
-range-fits n m h = le_trans (area (le_refl n) h) (columns-fit n m)
+range-fits n m h = le_trans (area (le_refl n) h) (columns_fit n m)
 
 pub null-fits : (n rank : ℕ) → n * (n - rank) ≤ n * n
 null-fits n rank = area (le_refl n) (omega arith)

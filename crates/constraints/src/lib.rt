@@ -26,7 +26,7 @@ fn q_transpose_in(
         × (length q.old ≡ n * n)
         × (rank ≤ n)
         × (n ≤ Sizes.originals) }
-    ensures { q.new ≡ Definition.qTranspose n rank range.now }
+    ensures { q.new ≡ Definition.q_transpose n rank range.now }
 {
     matrix::identity(q, n);
     vector::copy(range, n * rank, reflectors);
@@ -42,7 +42,7 @@ fn q_transpose(range: &[f64], n: usize, rank: usize, room: &mut [f64], q: &mut [
         × (rank ≤ n)
         × (rank ≤ Sizes.columns)
         × (n ≤ Sizes.originals) }
-    ensures { take (n * n) q.new ≡ Definition.qTranspose n rank range.now }
+    ensures { take (n * n) q.new ≡ Definition.q_transpose n rank range.now }
 {
     let mut made = [false; sizes::COLUMNS];
     let entries = n * rank;
@@ -60,7 +60,7 @@ fn q_transpose(range: &[f64], n: usize, rank: usize, room: &mut [f64], q: &mut [
 fn rows_transposed_column(q: &[f64], n: usize, rank: usize, d: usize, j: usize, z: &mut [f64])
     requires { (n * n ≤ length q.now) × (rank + d ≡ n) × (j < d) × (n * d ≤ length z.old) }
     ensures { z.new
-        ≡ Columns.putColumn n n j (λ i. Columns.cell q.now n (rank + j) i) z.old }
+        ≡ Columns.put_column n n j (λ i. Columns.cell q.now n (rank + j) i) z.old }
 {
     for i in 0..n {
         let v = columns::get(q, n, n, rank + j, i);
@@ -71,7 +71,7 @@ fn rows_transposed_column(q: &[f64], n: usize, rank: usize, d: usize, j: usize, 
 // `q.rows(rank, d).transpose()`, with d = n - rank.
 fn rows_transposed(q: &[f64], n: usize, rank: usize, d: usize, z: &mut [f64])
     requires { (n * n ≤ length q.now) × (rank + d ≡ n) × (n * d ≤ length z.old) }
-    ensures { z.new ≡ over (Definition.rowsTransposed n rank d q.now) z.old }
+    ensures { z.new ≡ over (Definition.rows_transposed n rank d q.now) z.old }
 {
     for j in 0..d {
         rows_transposed_column(q, n, rank, d, j, z);
@@ -92,7 +92,7 @@ fn less_range(
         × (n * rank ≤ length range.now)
         × (length part.old ≡ rank * d)
         × (length spanned.old ≡ n * d) }
-    ensures { null.new ≡ Definition.lessRange n rank d range.now null.old }
+    ensures { null.new ≡ Definition.less_range n rank d range.now null.old }
 {
     matrix::tr_mul(range, n, rank, &null[..], d, part);
     matrix::mul(range, n, rank, &part[..], d, spanned);
@@ -113,7 +113,7 @@ fn less_range_twice(
         × (n * rank ≤ length range.now)
         × (length part.old ≡ rank * d)
         × (length spanned.old ≡ n * d) }
-    ensures { null.new ≡ fold 2 (λ _. Definition.lessRange n rank d range.now) null.old }
+    ensures { null.new ≡ fold 2 (λ _. Definition.less_range n rank d range.now) null.old }
 {
     for _ in 0..2usize {
         less_range(null, range, n, rank, d, part, spanned);
@@ -172,7 +172,7 @@ fn null_space(
         × (rank ≤ n)
         × (rank ≤ Sizes.columns)
         × (n ≤ Sizes.originals) }
-    ensures { take (n * (n - rank)) null.new ≡ Definition.nullSpace n rank range.now }
+    ensures { take (n * (n - rank)) null.new ≡ Definition.null_space n rank range.now }
 {
     if rank == 0 {
         matrix::identity(null, n);
@@ -193,7 +193,7 @@ fn new_in(
     null: &mut [f64],
 ) -> Pivots
     requires { Room n m e.now coefficients.old range.old null.old × (n * m ≤ length left.old) × (n * n ≤ length q.old) }
-    ensures result_after { Definition.constraintsOf n m range.new null.new coefficients.new result
+    ensures result_after { Definition.constraints_of n m range.new null.new coefficients.new result
         ≡ Definition.new n m e.now }
     ensures taken { Taken (min n m) m result }
 {
@@ -225,7 +225,7 @@ fn new_small(
     null: &mut [f64],
 ) -> Pivots
     requires { Room n m e.now coefficients.old range.old null.old × (n ≤ Sizes.few) × (m ≤ Sizes.few) }
-    ensures result_after { Definition.constraintsOf n m range.new null.new coefficients.new result
+    ensures result_after { Definition.constraints_of n m range.new null.new coefficients.new result
         ≡ Definition.new n m e.now }
     ensures taken { Taken (min n m) m result }
 {
@@ -243,7 +243,7 @@ fn new_large(
     null: &mut [f64],
 ) -> Pivots
     requires { Room n m e.now coefficients.old range.old null.old }
-    ensures result_after { Definition.constraintsOf n m range.new null.new coefficients.new result
+    ensures result_after { Definition.constraints_of n m range.new null.new coefficients.new result
         ≡ Definition.new n m e.now }
     ensures taken { Taken (min n m) m result }
 {
@@ -262,7 +262,7 @@ pub fn new(
     null: &mut [f64],
 ) -> Pivots
     requires { Room n m e.now coefficients.old range.old null.old }
-    ensures result_after { Definition.constraintsOf n m range.new null.new coefficients.new result
+    ensures result_after { Definition.constraints_of n m range.new null.new coefficients.new result
         ≡ Definition.new n m e.now }
     ensures taken { Taken (min n m) m result }
 {
@@ -293,7 +293,7 @@ pub fn smallest_feasible(
         × (n ≤ Sizes.originals)
         × (m ≤ Sizes.columns) }
     ensures { take n result
-        ≡ Definition.smallestFeasible n m range.now coefficients.now b.now pivots.now rank }
+        ≡ Definition.smallest_feasible n m range.now coefficients.now b.now pivots.now rank }
 {
     let mut u = [0.0; sizes::COLUMNS];
     let p = pivot_choice::smaller_of(n, m);

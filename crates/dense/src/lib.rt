@@ -43,7 +43,7 @@ pub fn divided(a: &[f64], n: usize, by: f64) -> [f64; sizes::VARIABLES]
 // a x and aᵀ x, with a n by m.
 pub fn mul_vec(a: &[f64], n: usize, m: usize, x: &[f64]) -> [f64; sizes::VARIABLES]
     requires { (n ≤ variables) × (n * m ≤ length a.now) × (m ≤ length x.now) }
-    ensures { take n result ≡ Matrix.mulVec n m a.now x.now }
+    ensures { take n result ≡ Matrix.mul_vec n m a.now x.now }
 {
     let mut y = [0.0; sizes::VARIABLES];
     matrix::mul_vec(a, n, m, x, &mut y);
@@ -52,7 +52,7 @@ pub fn mul_vec(a: &[f64], n: usize, m: usize, x: &[f64]) -> [f64; sizes::VARIABL
 
 pub fn tr_mul_vec(a: &[f64], n: usize, m: usize, x: &[f64]) -> [f64; sizes::VARIABLES]
     requires { (m ≤ variables) × (n * m ≤ length a.now) × (n ≤ length x.now) }
-    ensures { take m result ≡ Matrix.trMulVec n m a.now x.now }
+    ensures { take m result ≡ Matrix.tr_mul_vec n m a.now x.now }
 {
     let mut y = [0.0; sizes::VARIABLES];
     matrix::tr_mul_vec(a, n, m, x, &mut y);

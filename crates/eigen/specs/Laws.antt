@@ -1,7 +1,7 @@
 -- Laws of the definitions: the lists of a decomposition have n and n * n elements, and what `split` gives is below n.
 use Rattle.std.specs.Prelude.{◌≡◌, refl, true, false, List, ℕ, zero, suc, ◌+◌, ◌*◌, ◌≤◌, length, Float}
-use Rattle.folds.specs.Fold.{fold-keep, pick-keep, span, Out, out}
-use Rattle.folds.specs.Tab.{length-tab, length-tabM}
+use Rattle.folds.specs.Fold.{fold_keep, pick_keep, span, Out, out}
+use Rattle.folds.specs.Tab.{length-tab, length-tab_m}
 use Rattle.folds.specs.Part.{two}
 use Rattle.folds.specs.Run.{run, Pass, more, done}
 use Rattle.folds.specs.Chosen.{length-chosen, chosen-below}
@@ -12,12 +12,12 @@ use Rattle.matrix.specs.Matrix.{identity}
 use Rattle.matrix.specs.Laws.{length-identity}
 use Rattle.rotation.specs.Rotation.{State, rotate}
 use Rattle.rotation.specs.Laws.{Square, rotate-square}
-use Rattle.eigen.specs.Eigen.{sweepRow, sweep, pass, sweeps, Eigen, eigen, nothing, symmetric, values}
-use Rattle.eigen.specs.Eigen.{answer, given, tolerance, start, jacobi, symmetricEigen, range, null}
+use Rattle.eigen.specs.Eigen.{sweep_row, sweep, pass, sweeps, Eigen, eigen, nothing, symmetric, values}
+use Rattle.eigen.specs.Eigen.{answer, given, tolerance, start, jacobi, symmetric_eigen, range, null}
 
 pub length-symmetric : (n : ℕ) (r : List Float) → length (symmetric n r) ≡ n * n
 unfolding symmetric
-length-symmetric n r = length-tabM n n _
+length-symmetric n r = length-tab_m n n _
 
 pub length-values : (n : ℕ) (a : List Float) (scale : Float) → length (values n a scale) ≡ n
 unfolding values
@@ -28,15 +28,15 @@ pub given-eigen : (l v : List Float) → given true l v ≡ eigen l v
 unfolding given
 given-eigen l v = refl
 
-pub given_nothing : (l v : List Float) → given false l v ≡ nothing
+pub given-nothing : (l v : List Float) → given false l v ≡ nothing
 unfolding given
-given_nothing l v = refl
+given-nothing l v = refl
 
 sweep-square : (n : ℕ) (s : State) → Square n s → Square n (sweep n s)
-unfolding sweep sweepRow span
+unfolding sweep sweep_row span
 sweep-square n s e =
-    fold-keep (Square n) n (sweepRow n) s e
-    (λ p t l h. fold-keep (Square n) _ (λ q. rotate n p (p + 1 + q)) t h (λ q u m g. rotate-square n p (p + 1 + q) u g))
+    fold_keep (Square n) n (sweep_row n) s e
+    (λ p t l h. fold_keep (Square n) _ (λ q. rotate n p (p + 1 + q)) t h (λ q u m g. rotate-square n p (p + 1 + q) u g))
 
 abbrev state_of : Out State → State
 state_of (out r s) = s
@@ -47,7 +47,7 @@ SquareAt n (done o) = Square n (state_of o)
 
 pass-square : (n : ℕ) (tolerance : Float) (s : State) → Square n s → SquareAt n (pass n tolerance s)
 unfolding pass
-pass-square n tolerance (two a v) e = pick-keep (SquareAt n) _ e (pick-keep (SquareAt n) _ e (sweep-square n (two a v) e))
+pass-square n tolerance (two a v) e = pick_keep (SquareAt n) _ e (pick_keep (SquareAt n) _ e (sweep-square n (two a v) e))
 
 run-square : (n : ℕ) (tolerance : Float) (left made : ℕ) (p : Pass State (Out State)) → SquareAt n p →
     Square n (state_of (run (λ i. pass n tolerance) (λ i z. out false z) left made p))
@@ -62,23 +62,23 @@ abbrev pub Fills : (n : ℕ) → Eigen → Type 0
 Fills n (eigen l v) = (length l ≡ n) × (length v ≡ n * n)
 Fills n nothing = n ≡ n
 
-answer-fills : (n : ℕ) (scale : Float) (o : Out State) → Square n (state_of o) → Fills n (answer n scale o)
-answer-fills n scale (out true (two a v)) e = (length-values n a scale, e)
-answer-fills n scale (out false s) e = refl
+answer_fills : (n : ℕ) (scale : Float) (o : Out State) → Square n (state_of o) → Fills n (answer n scale o)
+answer_fills n scale (out true (two a v)) e = (length-values n a scale, e)
+answer_fills n scale (out false s) e = refl
 
 sweeps-square : (n : ℕ) (within : Float) (s : State) → Square n s → Square n (state_of (sweeps n within s))
 unfolding sweeps
 sweeps-square n within s e = run-square n within 100 0 (more s) e
 
-jacobi-fills : (n : ℕ) (a : List Float) (scale : Float) → Fills n (jacobi n a scale)
+jacobi_fills : (n : ℕ) (a : List Float) (scale : Float) → Fills n (jacobi n a scale)
 unfolding jacobi
-jacobi-fills n a scale =
-    answer-fills n scale (sweeps n (tolerance n (start n a scale)) (two (start n a scale) (identity n)))
+jacobi_fills n a scale =
+    answer_fills n scale (sweeps n (tolerance n (start n a scale)) (two (start n a scale) (identity n)))
     (sweeps-square n (tolerance n (start n a scale)) (two (start n a scale) (identity n)) (length-identity n))
 
-pub fills : (n : ℕ) (a : List Float) → Fills n (symmetricEigen n a)
-unfolding symmetricEigen
-fills n a = pick-keep (Fills n) _ (pick-keep (Fills n) _ (length-filled n f0, length-identity n) (jacobi-fills n a _)) refl
+pub fills : (n : ℕ) (a : List Float) → Fills n (symmetric_eigen n a)
+unfolding symmetric_eigen
+fills n a = pick_keep (Fills n) _ (pick_keep (Fills n) _ (length-filled n f0, length-identity n) (jacobi_fills n a _)) refl
 
 -- ---- `split`: at most n numbers, each below n
 module _ (n : ℕ) (values : List Float) (cutoff : Float) where

@@ -12,7 +12,7 @@ const MAX_SWEEPS: usize = 100;
 
 fn sweep_row(a: &mut [f64], v: &mut [f64], n: usize, p: usize)
     requires { (n * n ≤ length a.old) × (n * n ≤ length v.old) × (p < n) }
-    ensures { two a.new v.new ≡ Eigen.sweepRow n p (two a.old v.old) }
+    ensures { two a.new v.new ≡ Eigen.sweep_row n p (two a.old v.old) }
 {
     for q in p + 1..n {
         rotation::rotate(a, v, n, p, q);
@@ -30,7 +30,7 @@ fn sweep(a: &mut [f64], v: &mut [f64], n: usize)
 
 fn off_row(a: &[f64], n: usize, p: usize, sum: f64) -> f64
     requires { (n * n ≤ length a.now) × (p < n) }
-    ensures { result ≡ Eigen.offRow n a.now p sum }
+    ensures { result ≡ Eigen.off_row n a.now p sum }
 {
     let mut s = sum;
     for q in p + 1..n {
@@ -42,7 +42,7 @@ fn off_row(a: &[f64], n: usize, p: usize, sum: f64) -> f64
 
 fn off_diagonal(a: &[f64], n: usize) -> f64
     requires { n * n ≤ length a.now }
-    ensures { result ≡ Eigen.offDiagonal n a.now }
+    ensures { result ≡ Eigen.off_diagonal n a.now }
 {
     let mut s = 0.0;
     for p in 0..n {
@@ -71,7 +71,7 @@ fn sweeps(a: &mut [f64], v: &mut [f64], n: usize, tolerance: f64) -> bool
 
 fn symmetric_column(r: &[f64], n: usize, j: usize, a: &mut [f64])
     requires { (n * n ≤ length r.now) × (n * n ≤ length a.old) × (j < n) }
-    ensures { a.new ≡ Columns.putColumn n n j (λ i. Eigen.mean n r.now i j) a.old }
+    ensures { a.new ≡ Columns.put_column n n j (λ i. Eigen.mean n r.now i j) a.old }
 {
     for i in 0..n {
         let rij = columns::get(r, n, n, i, j);
@@ -143,7 +143,7 @@ pub fn symmetric_eigen(
     vectors: &mut [f64],
 ) -> bool
     requires { (length a.old ≡ n * n) × (length room.old ≡ n * n) × (length values.old ≡ n) × (length vectors.old ≡ n * n) }
-    ensures { Eigen.given result values.new vectors.new ≡ Eigen.symmetricEigen n a.old }
+    ensures { Eigen.given result values.new vectors.new ≡ Eigen.symmetric_eigen n a.old }
 {
     let count = a.len();
     if !reductions::all_finite(&a[..], count) {

@@ -3,10 +3,10 @@
 ghost use Rattle.std.specs.Prelude.{◌≡◌, ◌<◌, length};
 ghost use Rattle.ints.specs.Sum.{delta};
 ghost use Rattle.ints.specs.Bound.{◌≼◌};
-ghost use Rattle.block.specs.Plan.{time, abs, sum_of, move, moves, bend, off, squareOf, squares, bends, cost};
-ghost use Rattle.block.specs.Gap.{coefOf, slopeOf};
+ghost use Rattle.block.specs.Plan.{time, abs, sum_of, move, moves, bend, off, square_of, squares, bends, cost};
+ghost use Rattle.block.specs.Gap.{coef_of, slope_of};
 ghost use Rattle.block.specs.Ranges.{Short, RangedList, RangedWord, RangedTempo, Timed};
-ghost use Rattle.format.specs.Structs.{Filled, word_of, list_of, tempoOf, block_of};
+ghost use Rattle.format.specs.Structs.{Filled, word_of, list_of, tempo_of, block_of};
 ghost use Rattle.exact.specs.Planned.{Planned};
 
 use format::{Block, Pair, Pairs, Tempo, Word};
@@ -56,7 +56,7 @@ fn coef_at(i: usize, p: Pair) -> i64
 pub fn coef_of(i: usize, l: Pairs) -> i64
     requires filled { Filled l }
     requires short { Short (list_of l) }
-    ensures { result ≡ coefOf i (list_of l) }
+    ensures { result ≡ coef_of i (list_of l) }
 {
     let mut sum: i64 = 0;
     let n = l.count;
@@ -88,9 +88,9 @@ pub fn bend(w: Word, t: i64) -> i64
 // sum - target
 fn off(t: Tempo, times: &[i32]) -> i64
     requires filled { Filled t.list }
-    requires ranged_tempo { RangedTempo (length times.now) (tempoOf t) }
+    requires ranged_tempo { RangedTempo (length times.now) (tempo_of t) }
     requires timed { Timed (length times.now) times.now }
-    ensures { result ≡ off (tempoOf t) times.now }
+    ensures { result ≡ off (tempo_of t) times.now }
 {
     let l = t.list;
     list_sum(l, times) - t.target
@@ -99,9 +99,9 @@ fn off(t: Tempo, times: &[i32]) -> i64
 // weight × (sum - target)²
 pub fn square_of(t: Tempo, times: &[i32]) -> i64
     requires filled { Filled t.list }
-    requires ranged_tempo { RangedTempo (length times.now) (tempoOf t) }
+    requires ranged_tempo { RangedTempo (length times.now) (tempo_of t) }
     requires timed { Timed (length times.now) times.now }
-    ensures { result ≡ squareOf (tempoOf t) times.now }
+    ensures { result ≡ square_of (tempo_of t) times.now }
 {
     let o = off(t, times);
     (t.weight as i64) * (o * o)
@@ -110,9 +110,9 @@ pub fn square_of(t: Tempo, times: &[i32]) -> i64
 // weight × (sum - target) × coefficient of word i
 pub fn slope_of(t: Tempo, times: &[i32], i: usize) -> i64
     requires filled { Filled t.list }
-    requires ranged_tempo { RangedTempo (length times.now) (tempoOf t) }
+    requires ranged_tempo { RangedTempo (length times.now) (tempo_of t) }
     requires timed { Timed (length times.now) times.now }
-    ensures { result ≡ slopeOf (tempoOf t) times.now i }
+    ensures { result ≡ slope_of (tempo_of t) times.now i }
 {
     let l = t.list;
     (t.weight as i64) * off(t, times) * coef_of(i, l)

@@ -5,4 +5,4 @@ use Rattle.sizes.specs.Sizes as Sizes
 pub record Block (n originals : ℕ) (q : List Float) : Type 0 where
   pub few : originals ≤ Sizes.originals
   pub within : originals ≤ n
-  pub q-holds : n * n ≤ length q
+  pub q_holds : n * n ≤ length q

@@ -20,7 +20,7 @@ fn column_on(
     y: &mut [f64],
 )
     requires { Block n originals q.now × (i < originals) × (originals ≤ length y.old) }
-    ensures { y.new ≡ over (Factor.columnOn q.now n (Marks.rising originals s) i) y.old }
+    ensures { y.new ≡ over (Factor.column_on q.now n (Marks.rising originals s) i) y.old }
 {
     let mut list = [0; sizes::ORIGINALS];
     let k = variable_set::rising(s, originals, &mut list);
@@ -73,7 +73,7 @@ fn join_one(
 ) -> Turn
     requires { Block n originals q.now × Room originals l.old room.old × (i < originals) }
     ensures { out result.ok (held result.marks l.new)
-        ≡ Held.joinOne q.now n originals wanted i (held s l.old) }
+        ≡ Held.join_one q.now n originals wanted i (held s l.old) }
 {
     if wanted[i] {
         if s[i] {
@@ -102,7 +102,7 @@ fn joins(
 ) -> bool
     requires { Block n originals q.now × Room originals l.old room.old }
     ensures { out result l.new
-        ≡ Held.factorOf (Held.joins q.now n originals wanted (held start l.old)) }
+        ≡ Held.factor_of (Held.joins q.now n originals wanted (held start l.old)) }
 {
     let mut s = start;
     for i in 0..originals {

@@ -5,8 +5,8 @@ use Rattle.std.proofs.Math.Option.{Option, none, some}
 use Rattle.folds.specs.Fold.{all, over, pick, Out, out}
 use Rattle.folds.specs.Marks.{contains, rising}
 use Rattle.sizes.specs.Sizes as Sizes
-use Rattle.matrix.specs.Matrix.{selectRows, selectColumns, index}
-use Rattle.cholesky.specs.Cholesky.{cholesky, positiveDefinite}
+use Rattle.matrix.specs.Matrix.{select_rows, select_columns, index}
+use Rattle.cholesky.specs.Cholesky.{cholesky, positive_definite}
 use Rattle.cholesky.specs.Pivots.{Sounds}
 use Rattle.variable_set.specs.Rising.{Rising}
 use Rattle.factor_update.specs.Factor.{updated}
@@ -30,21 +30,21 @@ unfoldable pub reset : Kept → Kept
 reset f = record { held = none; singular = f.singular }
 
 -- `self.factor.insert((indices.to_vec(), factor))`
-unfoldable pub withFactor : (indices : List ℕ) → Kept → Kept
-withFactor indices f = record { held = some indices; singular = f.singular }
+unfoldable pub with_factor : (indices : List ℕ) → Kept → Kept
+with_factor indices f = record { held = some indices; singular = f.singular }
 
 -- `self.singular = Some(indices.to_vec()); return None;`
-unfoldable pub withSingular : (indices : List ℕ) → Kept → Kept
-withSingular indices f = record { held = none; singular = some indices }
+unfoldable pub with_singular : (indices : List ℕ) → Kept → Kept
+with_singular indices f = record { held = none; singular = some indices }
 
 -- ---- afresh
 -- `q.select_rows(indices).select_columns(indices)`
 unfoldable pub submatrix : (q : List Float) (n : ℕ) (indices : List ℕ) → List Float
-submatrix q n indices = let k = length indices in selectColumns k (selectRows n n q k indices) k indices
+submatrix q n indices = let k = length indices in select_columns k (select_rows n n q k indices) k indices
 
 -- `Cholesky::new(a).filter(positive_definite)`, with a k by k
 unfoldable pub passing : (k : ℕ) → Out (List Float) → Out (List Float)
-passing k (out true l) = out (positiveDefinite l k) l
+passing k (out true l) = out (positive_definite l k) l
 passing k (out false l) = out false l
 
 unfoldable pub definite : (k : ℕ) (a : List Float) → Out (List Float)
@@ -56,45 +56,45 @@ fresh q n indices l = definite (length indices) (over (submatrix q n indices) l)
 
 -- `let Some(cholesky) = .. else { self.singular = Some(indices.to_vec()); return None; }`
 unfoldable pub kept : (indices : List ℕ) → Kept → Out (List Float) → Factor
-kept indices f (out true l) = factor (withFactor indices f) l
-kept indices f (out false l) = factor (withSingular indices f) l
+kept indices f (out true l) = factor (with_factor indices f) l
+kept indices f (out false l) = factor (with_singular indices f) l
 
 -- `s.iter().all(|i| indices.binary_search(i).is_ok())`
-unfoldable pub containsAll : (indices s : List ℕ) → Bool
-containsAll indices s = all (length s) (λ t. contains indices (index s t))
+unfoldable pub contains_all : (indices s : List ℕ) → Bool
+contains_all indices s = all (length s) (λ t. contains indices (index s t))
 
 -- `self.singular.as_ref().is_some_and(..)`
-unfoldable pub containsSingular : (indices : List ℕ) (singular : Option (List ℕ)) → Bool
-containsSingular indices none = false
-containsSingular indices (some s) = containsAll indices s
+unfoldable pub contains_singular : (indices : List ℕ) (singular : Option (List ℕ)) → Bool
+contains_singular indices none = false
+contains_singular indices (some s) = contains_all indices s
 
 unfoldable pub afresh : (q : List Float) (n : ℕ) (indices : List ℕ) → Kept → (l : List Float) → Factor
-afresh q n indices f l = pick (containsSingular indices f.singular) (factor (reset f) l) (kept indices f (fresh q n indices l))
+afresh q n indices f l = pick (contains_singular indices f.singular) (factor (reset f) l) (kept indices f (fresh q n indices l))
 
 -- ---- `update`
 -- `self.factor.take().and_then(|(held, cholesky)| updated(q, held, cholesky, indices))`
-unfoldable pub lastUpdated : (q : List Float) (n : ℕ) (indices : List ℕ) (held : Option (List ℕ)) (l : List Float) → Out (List Float)
-lastUpdated q n indices none l = out false l
-lastUpdated q n indices (some held) l = updated q n held l indices
+unfoldable pub last_updated : (q : List Float) (n : ℕ) (indices : List ℕ) (held : Option (List ℕ)) (l : List Float) → Out (List Float)
+last_updated q n indices none l = out false l
+last_updated q n indices (some held) l = updated q n held l indices
 
 -- `match updated`: `update` gives the factor where variables are held afterwards
 unfoldable pub settled : (q : List Float) (n : ℕ) (indices : List ℕ) → Kept → Out (List Float) → Factor
-settled q n indices f (out true l) = factor (withFactor indices f) l
+settled q n indices f (out true l) = factor (with_factor indices f) l
 settled q n indices f (out false l) = afresh q n indices f l
 
 unfoldable pub update : (q : List Float) (n : ℕ) (indices : List ℕ) → Kept → (l : List Float) → Factor
-update q n indices f l = settled q n indices f (lastUpdated q n indices f.held l)
+update q n indices f l = settled q n indices f (last_updated q n indices f.held l)
 
 -- ---- what the code's record stands for: the marked variables, where the mark beside them says that there are such
 abbrev pub list_of : List Bool → List ℕ
 list_of s = rising Sizes.originals s
 
-unfoldable pub optionOf : (there : Bool) → List Bool → Option (List ℕ)
-optionOf false s = none
-optionOf true s = some (list_of s)
+unfoldable pub option_of : (there : Bool) → List Bool → Option (List ℕ)
+option_of false s = none
+option_of true s = some (list_of s)
 
-unfoldable pub keptOf : Factoring → Kept
-keptOf f = record { held = optionOf f.factored f.held; singular = optionOf f.failed f.singular }
+unfoldable pub kept_of : Factoring → Kept
+kept_of f = record { held = option_of f.factored f.held; singular = option_of f.failed f.singular }
 
 -- ---- what every call keeps: the variables of a factor are below o, and its pivots pass the floor or are NaN
 pub record Sound (o : ℕ) (f : Kept) (l : List Float) : Type 0 where
@@ -102,12 +102,12 @@ pub record Sound (o : ℕ) (f : Kept) (l : List Float) : Type 0 where
   pub pivots : (s : List ℕ) → f.held ≡ some s → Sounds (length s) l
 
 abbrev pub Good : (o : ℕ) → Factoring → (l : List Float) → Type 0
-Good o f l = Sound o (keptOf f) l
+Good o f l = Sound o (kept_of f) l
 
 -- ---- what `update` asks: Q and the list, the kept factor, and room for it and for the block's rows of Q
 pub record Updatable (n o : ℕ) (q : List Float) (indices : List ℕ) (f : Factoring) (l room : List Float) : Type 0 where
   pub block : Block n o q
   pub rises : Rising o indices
   pub good : Good o f l
-  pub l-holds : o * o ≤ length l
-  pub room-holds : o * n ≤ length room
+  pub l_holds : o * o ≤ length l
+  pub room_holds : o * n ≤ length room

@@ -7,7 +7,7 @@ ghost use Rattle.vector.specs.Vector.{Below};
 ghost use Rattle.variable_set.specs.Rising.{Rising};
 ghost use Rattle.leaving.specs.Room.{Room};
 ghost use Rattle.factor_update.specs.Block.{Block};
-ghost use Rattle.factoring.specs.Kept.{factor, keptOf};
+ghost use Rattle.factoring.specs.Kept.{factor, kept_of};
 ghost use Rattle.factoring.specs.Kept as Kept;
 
 // A set of variables is a mark for each.
@@ -24,7 +24,7 @@ pub struct Factoring {
 // s.iter().all(|i| indices.binary_search(i).is_ok())
 fn contains_all(indices: &[usize], s: &[usize]) -> bool
     requires { Below (length indices.now) indices.now Sizes.originals × Below (length s.now) s.now Sizes.originals }
-    ensures { result ≡ Kept.containsAll indices.now s.now }
+    ensures { result ≡ Kept.contains_all indices.now s.now }
 {
     let listed = variable_set::marks(indices);
     for t in 0..s.len() {
@@ -39,7 +39,7 @@ fn contains_all(indices: &[usize], s: &[usize]) -> bool
 // Whether the block on `indices` contains the last singular one.
 fn contains_singular(failed: bool, singular: [bool; sizes::ORIGINALS], indices: &[usize]) -> bool
     requires { Below (length indices.now) indices.now Sizes.originals }
-    ensures { result ≡ Kept.containsSingular indices.now (Kept.optionOf failed singular) }
+    ensures { result ≡ Kept.contains_singular indices.now (Kept.option_of failed singular) }
 {
     if failed {
         let mut list = [0; sizes::ORIGINALS];
@@ -91,7 +91,7 @@ fn last_updated(
         × (factored ≡ true → Rising originals (Kept.list_of held))
         × Rising originals indices.now }
     ensures { out result l.new
-        ≡ Kept.lastUpdated q.now n indices.now (Kept.optionOf factored held) l.old }
+        ≡ Kept.last_updated q.now n indices.now (Kept.option_of factored held) l.old }
 {
     if factored {
         let mut list = [0; sizes::ORIGINALS];
@@ -103,7 +103,7 @@ fn last_updated(
 
 impl Factoring {
     pub fn new() -> Self
-        ensures { keptOf result ≡ Kept.new }
+        ensures { kept_of result ≡ Kept.new }
     {
         Factoring {
             factored: false,
@@ -115,7 +115,7 @@ impl Factoring {
 
     // Drops the factor.
     pub fn reset(self) -> Self
-        ensures { keptOf result ≡ Kept.reset (keptOf self) }
+        ensures { kept_of result ≡ Kept.reset (kept_of self) }
     {
         let mut f = self;
         f.factored = false;
@@ -124,7 +124,7 @@ impl Factoring {
 
     fn with_factor(self, indices: &[usize]) -> Self
         requires { Rising Sizes.originals indices.now }
-        ensures { keptOf result ≡ Kept.withFactor indices.now (keptOf self) }
+        ensures { kept_of result ≡ Kept.with_factor indices.now (kept_of self) }
     {
         let held = variable_set::marks(indices);
         let mut f = self;
@@ -135,7 +135,7 @@ impl Factoring {
 
     fn with_singular(self, indices: &[usize]) -> Self
         requires { Rising Sizes.originals indices.now }
-        ensures { keptOf result ≡ Kept.withSingular indices.now (keptOf self) }
+        ensures { kept_of result ≡ Kept.with_singular indices.now (kept_of self) }
     {
         let singular = variable_set::marks(indices);
         let mut f = self;
@@ -152,8 +152,8 @@ impl Factoring {
             × Below (length indices.now) indices.now n
             × (length indices.now * length indices.now ≤ length l.old)
             × (length indices.now * n ≤ length room.old) }
-        ensures { factor (keptOf result) l.new
-            ≡ Kept.afresh q.now n indices.now (keptOf self) l.old }
+        ensures { factor (kept_of result) l.new
+            ≡ Kept.afresh q.now n indices.now (kept_of self) l.old }
     {
         let singular = self.singular;
         if contains_singular(self.failed, singular, indices) {
@@ -177,8 +177,8 @@ impl Factoring {
         room: &mut [f64],
     ) -> Self
         requires { Kept.Updatable n originals q.now indices.now self l.old room.old }
-        ensures l_after { factor (keptOf result) l.new
-            ≡ Kept.update q.now n indices.now (keptOf self) l.old }
+        ensures l_after { factor (kept_of result) l.new
+            ≡ Kept.update q.now n indices.now (kept_of self) l.old }
         ensures good { Kept.Good originals result l.new }
     {
         let held = self.held;

@@ -1,6 +1,6 @@
 // A field's verdict: its header's, then its body's. The definitions are format's specs/Read.antt.
 ghost use Rattle.std.specs.Prelude.{◌≡◌, ◌≤◌};
-ghost use Rattle.block.specs.Ranges.{maxPairs};
+ghost use Rattle.block.specs.Ranges.{max_pairs};
 ghost use Rattle.format.specs.Read as Read;
 
 use format::{Counts, Verdict};
@@ -8,7 +8,7 @@ use format::{Counts, Verdict};
 // The count of the list in a body of n bytes, `fixed` of which stand before its pairs; 0 where none fits.
 pub fn pairs_in(fixed: u64, n: u64) -> usize
     requires { fixed ≤ 9 }
-    ensures { (result ≡ Read.pairsIn fixed n) × (result ≤ maxPairs) }
+    ensures { (result ≡ Read.pairs_in fixed n) × (result ≤ max_pairs) }
 {
     if n == fixed + 2 {
         return 1;
@@ -27,7 +27,7 @@ pub fn pairs_in(fixed: u64, n: u64) -> usize
 
 // The count of a field of tag t and length n, 1 for a tag without a list; 0 where the tag has no such length.
 pub fn count(t: u64, n: u64) -> usize
-    ensures { (result ≡ Read.count t n) × (result ≤ maxPairs) }
+    ensures { (result ≡ Read.count t n) × (result ≤ max_pairs) }
 {
     if t == format::WORD {
         if n == 20 {
@@ -52,13 +52,13 @@ pub fn count(t: u64, n: u64) -> usize
 
 // The count of the field that r begins with.
 pub fn count_of(r: &[u8]) -> usize
-    ensures { (result ≡ Read.count_of r.now) × (result ≤ maxPairs) }
+    ensures { (result ≡ Read.count_of r.now) × (result ≤ max_pairs) }
 {
     count(numbers::byte_at(r, 0), numbers::u16_at(r, 1))
 }
 
 pub fn has_room(t: u64, so: Counts) -> bool
-    ensures { result ≡ Read.hasRoom t so }
+    ensures { result ≡ Read.has_room t so }
 {
     if t == format::WORD {
         return so.words < format::MAX_WORDS;
@@ -77,7 +77,7 @@ pub fn has_room(t: u64, so: Counts) -> bool
 
 // The verdict on the header of the field that r begins with.
 pub fn head_verdict(r: &[u8], last: u64, so: Counts) -> Verdict
-    ensures { result ≡ Read.headVerdict r.now last so }
+    ensures { result ≡ Read.head_verdict r.now last so }
 {
     if r.len() < 3 {
         return Verdict::BadLength;
@@ -108,8 +108,8 @@ pub fn head_verdict(r: &[u8], last: u64, so: Counts) -> Verdict
 }
 
 pub fn body_verdict(t: u64, b: &[u8], words: u64, n: usize) -> Verdict
-    requires { n ≤ maxPairs }
-    ensures { result ≡ Read.bodyVerdict t b.now words n }
+    requires { n ≤ max_pairs }
+    ensures { result ≡ Read.body_verdict t b.now words n }
 {
     if t == format::WORD {
         return bodies::word_verdict(b);
@@ -128,7 +128,7 @@ pub fn body_verdict(t: u64, b: &[u8], words: u64, n: usize) -> Verdict
 
 // The verdict on the field that r begins with.
 pub fn field_verdict(r: &[u8], last: u64, so: Counts) -> Verdict
-    ensures { result ≡ Read.fieldVerdict r.now last so }
+    ensures { result ≡ Read.field_verdict r.now last so }
 {
     let v = head_verdict(r, last, so);
     if numbers::accepted(v) {

@@ -3,12 +3,12 @@ use Rattle.std.specs.Prelude.{◌≡◌, refl, Bool, true, false, not, List, ℕ
 use Rattle.std.specs.Int.Signed.{le_z}
 use Rattle.folds.specs.Fold.{pick, both}
 use Rattle.block.specs.Block.{Block}
-use Rattle.block.specs.Ranges.{maxWords, maxTempos, maxAnchors, maxSpans, maxTime, maxSlope, maxWeight, maxCoef, maxSum}
-use Rattle.format.specs.Read.{number, accepted, need, after, byte_at, u16At, u32_at, signed, i8At, i32At, tag, len, body}
-use Rattle.format.specs.Read.{up_to, oneTo, sizeUpTo, isZero, inOrder, wordTag, tempoTag, anchorTag, spanTag, capTag}
-use Rattle.format.specs.Read.{rises, pairVerdict, first_of, listVerdict, wordVerdict, tempoVerdict, anchorVerdict, spanVerdict, capVerdict}
-use Rattle.format.specs.Read.{pairsIn, count, count_of, hasRoom, headVerdict, bodyVerdict, fieldVerdict, endVerdict}
-use Rattle.format.specs.Read.{wordFrom, tempoFrom, anchorFrom, spanFrom, withWord, withTempo, withAnchor, withSpan, withCap, withBody}
+use Rattle.block.specs.Ranges.{max_words, max_tempos, max_anchors, max_spans, max_time, max_slope, max_weight, max_coef, max_sum}
+use Rattle.format.specs.Read.{number, accepted, need, after, byte_at, u16_at, u32_at, signed, i8_at, i32_at, tag, len, body}
+use Rattle.format.specs.Read.{up_to, one_to, size_up_to, is_zero, in_order, word_tag, tempo_tag, anchor_tag, span_tag, cap_tag}
+use Rattle.format.specs.Read.{rises, pair_verdict, first_of, list_verdict, word_verdict, tempo_verdict, anchor_verdict, span_verdict, cap_verdict}
+use Rattle.format.specs.Read.{pairs_in, count, count_of, has_room, head_verdict, body_verdict, field_verdict, end_verdict}
+use Rattle.format.specs.Read.{word_from, tempo_from, anchor_from, span_from, with_word, with_tempo, with_anchor, with_span, with_cap, with_body}
 use Rattle.format.specs.declared.Counts.{Counts}
 use Rattle.format.specs.declared.Verdict.{Verdict}
 use Rattle.format.specs.declared.Verdict.TheVariants.{Accepted, BadLength, UnknownTag, OutOfOrder, TooMany, OutOfRange, CrossedBounds, BadList}
@@ -28,29 +28,29 @@ accepted-each = (refl, refl, refl, refl, refl, refl, refl, refl)
 
 -- ---- numbers
 module _ (s : List ℕ) (i : ℕ) where
-  pub u16At-by : {n : ℕ} → n ≡ byte_at s i + 256 * byte_at s (i + 1) → n ≡ u16At s i
-  unfolding u16At
-  u16At-by e = e
+  pub u16_at_by : {n : ℕ} → n ≡ byte_at s i + 256 * byte_at s (i + 1) → n ≡ u16_at s i
+  unfolding u16_at
+  u16_at_by e = e
 
-  pub u32At-by : {n : ℕ} → n ≡ u16At s i + 65536 * u16At s (i + 2) → n ≡ u32_at s i
+  pub u32_at_by : {n : ℕ} → n ≡ u16_at s i + 65536 * u16_at s (i + 2) → n ≡ u32_at s i
   unfolding u32_at
-  u32At-by e = e
+  u32_at_by e = e
 
-  pub i8At-by : {z : ℤ} → z ≡ signed 128 (byte_at s i) → z ≡ i8At s i
-  unfolding i8At
-  i8At-by e = e
+  pub i8_at_by : {z : ℤ} → z ≡ signed 128 (byte_at s i) → z ≡ i8_at s i
+  unfolding i8_at
+  i8_at_by e = e
 
-  pub i32At-by : {z : ℤ} → z ≡ signed 2147483648 (u32_at s i) → z ≡ i32At s i
-  unfolding i32At
-  i32At-by e = e
+  pub i32_at_by : {z : ℤ} → z ≡ signed 2147483648 (u32_at s i) → z ≡ i32_at s i
+  unfolding i32_at
+  i32_at_by e = e
 
-pub sizeUpTo-by : {t : Bool} (most : ℕ) (z : ℤ) → t ≡ both (le_z (neg_ℤ (pos most)) z) (le_z z (pos most)) → t ≡ sizeUpTo most z
-unfolding sizeUpTo
-sizeUpTo-by most z e = e
+pub size_up_to_by : {t : Bool} (most : ℕ) (z : ℤ) → t ≡ both (le_z (neg_ℤ (pos most)) z) (le_z z (pos most)) → t ≡ size_up_to most z
+unfolding size_up_to
+size_up_to_by most z e = e
 
-pub isZero-by : {t : Bool} (z : ℤ) → t ≡ both (le_z z (pos 0)) (le_z (pos 0) z) → t ≡ isZero z
-unfolding isZero
-isZero-by z e = e
+pub is_zero_by : {t : Bool} (z : ℤ) → t ≡ both (le_z z (pos 0)) (le_z (pos 0) z) → t ≡ is_zero z
+unfolding is_zero
+is_zero_by z e = e
 
 -- ---- the body of a field
 module _ (b : List ℕ) (p : ℕ) where
@@ -58,127 +58,127 @@ module _ (b : List ℕ) (p : ℕ) where
   unfolding rises
   rises_by i e = e
 
-  pub pairVerdict-by : {v : Verdict} (words i : ℕ)
+  pub pair_verdict_by : {v : Verdict} (words i : ℕ)
       → v ≡ need (ltb (byte_at b (p + 2 * i + 1)) words) BadList
       (need (rises b p i) BadList
-      (need (sizeUpTo maxCoef (i8At b (p + 2 * i + 2))) OutOfRange
-      (need (not (isZero (i8At b (p + 2 * i + 2)))) OutOfRange
+      (need (size_up_to max_coef (i8_at b (p + 2 * i + 2))) OutOfRange
+      (need (not (is_zero (i8_at b (p + 2 * i + 2)))) OutOfRange
       Accepted)))
-      → v ≡ pairVerdict b p words i
-  unfolding pairVerdict
-  pairVerdict-by words i e = e
+      → v ≡ pair_verdict b p words i
+  unfolding pair_verdict
+  pair_verdict_by words i e = e
 
-  pub listVerdict-by : {v : Verdict} (words n : ℕ) → v ≡ need (eqb (byte_at b p) n) BadList (first_of n (pairVerdict b p words))
-      → v ≡ listVerdict b p words n
-  unfolding listVerdict
-  listVerdict-by words n e = e
+  pub list_verdict_by : {v : Verdict} (words n : ℕ) → v ≡ need (eqb (byte_at b p) n) BadList (first_of n (pair_verdict b p words))
+      → v ≡ list_verdict b p words n
+  unfolding list_verdict
+  list_verdict_by words n e = e
 
 module _ {v : Verdict} (b : List ℕ) where
-  pub wordVerdict-by :
-      v ≡ need (up_to maxTime (u32_at b 0)) OutOfRange
-      (need (up_to maxTime (u32_at b 4)) OutOfRange
-      (need (up_to maxTime (u32_at b 8)) OutOfRange
-      (need (up_to maxTime (u32_at b 12)) OutOfRange
-      (need (up_to maxSlope (u32_at b 16)) OutOfRange
+  pub word_verdict_by :
+      v ≡ need (up_to max_time (u32_at b 0)) OutOfRange
+      (need (up_to max_time (u32_at b 4)) OutOfRange
+      (need (up_to max_time (u32_at b 8)) OutOfRange
+      (need (up_to max_time (u32_at b 12)) OutOfRange
+      (need (up_to max_slope (u32_at b 16)) OutOfRange
       (need (leb (u32_at b 0) (u32_at b 4)) CrossedBounds
       Accepted)))))
-      → v ≡ wordVerdict b
-  unfolding wordVerdict
-  wordVerdict-by e = e
+      → v ≡ word_verdict b
+  unfolding word_verdict
+  word_verdict_by e = e
 
-  pub capVerdict-by : v ≡ need (up_to maxSum (u32_at b 0)) OutOfRange Accepted → v ≡ capVerdict b
-  unfolding capVerdict
-  capVerdict-by e = e
+  pub cap_verdict_by : v ≡ need (up_to max_sum (u32_at b 0)) OutOfRange Accepted → v ≡ cap_verdict b
+  unfolding cap_verdict
+  cap_verdict_by e = e
 
   module _ (words n : ℕ) where
-    pub tempoVerdict-by :
-        v ≡ need (oneTo maxWeight (u16At b 0)) OutOfRange
-        (need (sizeUpTo maxSum (i32At b 2)) OutOfRange
-        (listVerdict b 6 words n))
-        → v ≡ tempoVerdict b words n
-    unfolding tempoVerdict
-    tempoVerdict-by e = e
+    pub tempo_verdict_by :
+        v ≡ need (one_to max_weight (u16_at b 0)) OutOfRange
+        (need (size_up_to max_sum (i32_at b 2)) OutOfRange
+        (list_verdict b 6 words n))
+        → v ≡ tempo_verdict b words n
+    unfolding tempo_verdict
+    tempo_verdict_by e = e
 
-    pub anchorVerdict-by : v ≡ need (sizeUpTo maxSum (i32At b 0)) OutOfRange (listVerdict b 4 words n) → v ≡ anchorVerdict b words n
-    unfolding anchorVerdict
-    anchorVerdict-by e = e
+    pub anchor_verdict_by : v ≡ need (size_up_to max_sum (i32_at b 0)) OutOfRange (list_verdict b 4 words n) → v ≡ anchor_verdict b words n
+    unfolding anchor_verdict
+    anchor_verdict_by e = e
 
-    pub spanVerdict-by :
-        v ≡ need (sizeUpTo maxSum (i32At b 0)) OutOfRange
-        (need (sizeUpTo maxSum (i32At b 4)) OutOfRange
-        (after (listVerdict b 8 words n)
-        (need (le_z (i32At b 0) (i32At b 4)) CrossedBounds
+    pub span_verdict_by :
+        v ≡ need (size_up_to max_sum (i32_at b 0)) OutOfRange
+        (need (size_up_to max_sum (i32_at b 4)) OutOfRange
+        (after (list_verdict b 8 words n)
+        (need (le_z (i32_at b 0) (i32_at b 4)) CrossedBounds
         Accepted)))
-        → v ≡ spanVerdict b words n
-    unfolding spanVerdict
-    spanVerdict-by e = e
+        → v ≡ span_verdict b words n
+    unfolding span_verdict
+    span_verdict_by e = e
 
-    pub bodyVerdict-by : (t : ℕ)
-        → v ≡ pick (eqb t wordTag) (wordVerdict b)
-        (pick (eqb t tempoTag) (tempoVerdict b words n)
-        (pick (eqb t anchorTag) (anchorVerdict b words n)
-        (pick (eqb t spanTag) (spanVerdict b words n)
-        (capVerdict b))))
-        → v ≡ bodyVerdict t b words n
-    unfolding bodyVerdict
-    bodyVerdict-by t e = e
+    pub body_verdict_by : (t : ℕ)
+        → v ≡ pick (eqb t word_tag) (word_verdict b)
+        (pick (eqb t tempo_tag) (tempo_verdict b words n)
+        (pick (eqb t anchor_tag) (anchor_verdict b words n)
+        (pick (eqb t span_tag) (span_verdict b words n)
+        (cap_verdict b))))
+        → v ≡ body_verdict t b words n
+    unfolding body_verdict
+    body_verdict_by t e = e
 
 -- ---- the header of a field
-pub pairsIn-by : {k : ℕ} (fixed n : ℕ)
+pub pairs_in_by : {k : ℕ} (fixed n : ℕ)
     → k ≡ pick (eqb n (fixed + 2)) 1 (pick (eqb n (fixed + 4)) 2 (pick (eqb n (fixed + 6)) 3 (pick (eqb n (fixed + 8)) 4 0)))
-    → k ≡ pairsIn fixed n
-unfolding pairsIn
-pairsIn-by fixed n e = e
+    → k ≡ pairs_in fixed n
+unfolding pairs_in
+pairs_in_by fixed n e = e
 
 pub count_by : {k : ℕ} (t n : ℕ)
-    → k ≡ pick (eqb t wordTag) (pick (eqb n 20) 1 0)
-    (pick (eqb t tempoTag) (pairsIn 7 n)
-    (pick (eqb t anchorTag) (pairsIn 5 n)
-    (pick (eqb t spanTag) (pairsIn 9 n)
+    → k ≡ pick (eqb t word_tag) (pick (eqb n 20) 1 0)
+    (pick (eqb t tempo_tag) (pairs_in 7 n)
+    (pick (eqb t anchor_tag) (pairs_in 5 n)
+    (pick (eqb t span_tag) (pairs_in 9 n)
     (pick (eqb n 4) 1 0))))
     → k ≡ count t n
 unfolding count
 count_by t n e = e
 
-pub hasRoom-by : {r : Bool} (t : ℕ) (so : Counts)
-    → r ≡ pick (eqb t wordTag) (ltb so.words maxWords)
-    (pick (eqb t tempoTag) (ltb so.tempos maxTempos)
-    (pick (eqb t anchorTag) (ltb so.anchors maxAnchors)
-    (pick (eqb t spanTag) (ltb so.spans maxSpans)
+pub has_room_by : {r : Bool} (t : ℕ) (so : Counts)
+    → r ≡ pick (eqb t word_tag) (ltb so.words max_words)
+    (pick (eqb t tempo_tag) (ltb so.tempos max_tempos)
+    (pick (eqb t anchor_tag) (ltb so.anchors max_anchors)
+    (pick (eqb t span_tag) (ltb so.spans max_spans)
     true)))
-    → r ≡ hasRoom t so
-unfolding hasRoom
-hasRoom-by t so e = e
+    → r ≡ has_room t so
+unfolding has_room
+has_room_by t so e = e
 
 module _ {v : Verdict} (r : List ℕ) (last : ℕ) (so : Counts) where
-  pub headVerdict-by :
+  pub head_verdict_by :
       v ≡ need (leb 3 (length r)) BadLength
-      (need (oneTo capTag (tag r)) UnknownTag
-      (need (inOrder last (tag r)) OutOfOrder
-      (need (hasRoom (tag r) so) TooMany
+      (need (one_to cap_tag (tag r)) UnknownTag
+      (need (in_order last (tag r)) OutOfOrder
+      (need (has_room (tag r) so) TooMany
       (need (leb 1 (count_of r)) BadLength
       (need (leb (len r) (length r - 3)) BadLength
       Accepted)))))
-      → v ≡ headVerdict r last so
-  unfolding headVerdict
-  headVerdict-by e = e
+      → v ≡ head_verdict r last so
+  unfolding head_verdict
+  head_verdict_by e = e
 
-  pub fieldVerdict-by : v ≡ after (headVerdict r last so) (bodyVerdict (tag r) (body r) so.words (count_of r)) → v ≡ fieldVerdict r last so
-  unfolding fieldVerdict
-  fieldVerdict-by e = e
+  pub field_verdict_by : v ≡ after (head_verdict r last so) (body_verdict (tag r) (body r) so.words (count_of r)) → v ≡ field_verdict r last so
+  unfolding field_verdict
+  field_verdict_by e = e
 
 -- ---- the block
-pub withBody-by : {q : Block} (t : ℕ) (b : List ℕ) (n : ℕ) (k : Block)
-    → q ≡ pick (eqb t wordTag) (withWord (wordFrom b) k)
-    (pick (eqb t tempoTag) (withTempo (tempoFrom b n) k)
-    (pick (eqb t anchorTag) (withAnchor (anchorFrom b n) k)
-    (pick (eqb t spanTag) (withSpan (spanFrom b n) k)
-    (withCap (u32_at b 0) k))))
-    → q ≡ withBody t b n k
-unfolding withBody
-withBody-by t b n k e = e
+pub with_body_by : {q : Block} (t : ℕ) (b : List ℕ) (n : ℕ) (k : Block)
+    → q ≡ pick (eqb t word_tag) (with_word (word_from b) k)
+    (pick (eqb t tempo_tag) (with_tempo (tempo_from b n) k)
+    (pick (eqb t anchor_tag) (with_anchor (anchor_from b n) k)
+    (pick (eqb t span_tag) (with_span (span_from b n) k)
+    (with_cap (u32_at b 0) k))))
+    → q ≡ with_body t b n k
+unfolding with_body
+with_body_by t b n k e = e
 
-pub endVerdict-by : {v : Verdict} (last words : ℕ) → v ≡ need (leb 1 words) OutOfOrder (need (eqb last capTag) OutOfOrder Accepted)
-    → v ≡ endVerdict last words
-unfolding endVerdict
-endVerdict-by last words e = e
+pub end_verdict_by : {v : Verdict} (last words : ℕ) → v ≡ need (leb 1 words) OutOfOrder (need (eqb last cap_tag) OutOfOrder Accepted)
+    → v ≡ end_verdict last words
+unfolding end_verdict
+end_verdict_by last words e = e

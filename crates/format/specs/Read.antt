@@ -4,7 +4,7 @@ use Rattle.std.specs.Prelude.{Bool, true, false, not, List, [], ◌∷◌, ◌++
 use Rattle.std.specs.Int.Signed.{le_z}
 use Rattle.folds.specs.Fold.{pick, both}
 use Rattle.block.specs.Block.{Word, Item, Tempo, Anchor, Span, Block}
-use Rattle.block.specs.Ranges.{maxWords, maxTempos, maxAnchors, maxSpans, maxTime, maxSlope, maxWeight, maxCoef, maxSum}
+use Rattle.block.specs.Ranges.{max_words, max_tempos, max_anchors, max_spans, max_time, max_slope, max_weight, max_coef, max_sum}
 use Rattle.format.specs.declared.Counts.{Counts}
 use Rattle.format.specs.declared.Verdict.{Verdict}
 use Rattle.format.specs.declared.Verdict.TheVariants.{Accepted, BadLength, UnknownTag, OutOfOrder, TooMany, OutOfRange, CrossedBounds, BadList}
@@ -44,72 +44,72 @@ abbrev pub byte_at : (bytes : List ℕ) (i : ℕ) → ℕ
 byte_at s i = get_or s i 0
 
 -- "Numbers of more than one byte go low byte first"
-unfoldable pub u16At : (bytes : List ℕ) (i : ℕ) → ℕ
-u16At s i = byte_at s i + 256 * byte_at s (i + 1)
+unfoldable pub u16_at : (bytes : List ℕ) (i : ℕ) → ℕ
+u16_at s i = byte_at s i + 256 * byte_at s (i + 1)
 
 unfoldable pub u32_at : (bytes : List ℕ) (i : ℕ) → ℕ
-u32_at s i = u16At s i + 65536 * u16At s (i + 2)
+u32_at s i = u16_at s i + 65536 * u16_at s (i + 2)
 
 abbrev pub tag : List ℕ → ℕ
 tag r = byte_at r 0
 
 abbrev pub len : List ℕ → ℕ
-len r = u16At r 1
+len r = u16_at r 1
 
 abbrev pub body : List ℕ → List ℕ
 body r = take (len r) (drop 3 r)
 
--- "signed 32-bit in the file unless said": two's complement, where `half` is the first number that stands for a negative one
+-- "signed 32_bit in the file unless said": two's complement, where `half` is the first number that stands for a negative one
 unfoldable pub signed : (half n : ℕ) → ℤ
 signed half n = pick (ltb n half) (pos n) (pos n -ℤ pos (half + half))
 
-unfoldable pub i8At : (bytes : List ℕ) (i : ℕ) → ℤ
-i8At s i = signed 128 (byte_at s i)
+unfoldable pub i8_at : (bytes : List ℕ) (i : ℕ) → ℤ
+i8_at s i = signed 128 (byte_at s i)
 
-unfoldable pub i32At : (bytes : List ℕ) (i : ℕ) → ℤ
-i32At s i = signed 2147483648 (u32_at s i)
+unfoldable pub i32_at : (bytes : List ℕ) (i : ℕ) → ℤ
+i32_at s i = signed 2147483648 (u32_at s i)
 
 -- ---- the tags, "1 word", "2 tempo", "3 anchor", "4 span", "5 cap, one, last"
-abbrev pub wordTag : ℕ
-wordTag = 1
+abbrev pub word_tag : ℕ
+word_tag = 1
 
-abbrev pub tempoTag : ℕ
-tempoTag = 2
+abbrev pub tempo_tag : ℕ
+tempo_tag = 2
 
-abbrev pub anchorTag : ℕ
-anchorTag = 3
+abbrev pub anchor_tag : ℕ
+anchor_tag = 3
 
-abbrev pub spanTag : ℕ
-spanTag = 4
+abbrev pub span_tag : ℕ
+span_tag = 4
 
-abbrev pub capTag : ℕ
-capTag = 5
+abbrev pub cap_tag : ℕ
+cap_tag = 5
 
 -- ---- the ranges. A number from 0 or 1 up is judged without its sign: read so, a negative one is above every range (Signed.antt)
 abbrev pub up_to : (most n : ℕ) → Bool
 up_to most n = leb n most
 
-abbrev pub oneTo : (most n : ℕ) → Bool
-oneTo most n = both (leb 1 n) (leb n most)
+abbrev pub one_to : (most n : ℕ) → Bool
+one_to most n = both (leb 1 n) (leb n most)
 
 -- from -most to most
-unfoldable pub sizeUpTo : (most : ℕ) (z : ℤ) → Bool
-sizeUpTo most z = both (le_z (neg_ℤ (pos most)) z) (le_z z (pos most))
+unfoldable pub size_up_to : (most : ℕ) (z : ℤ) → Bool
+size_up_to most z = both (le_z (neg_ℤ (pos most)) z) (le_z z (pos most))
 
-unfoldable pub isZero : ℤ → Bool
-isZero z = both (le_z z (pos 0)) (le_z (pos 0) z)
+unfoldable pub is_zero : ℤ → Bool
+is_zero z = both (le_z z (pos 0)) (le_z (pos 0) z)
 
 -- ---- "A list is a count byte (1 to 4) and pairs: word number (byte, from 0, rising), coefficient (signed byte, −8 to 8, not 0)."
 -- The count byte stands at p of the body b, and pair i from p + 2 i + 1 on
 unfoldable pub rises : (body : List ℕ) (p i : ℕ) → Bool
 rises b p i = pick (eqb i 0) true (ltb (byte_at b (p + 2 * i - 1)) (byte_at b (p + 2 * i + 1)))
 
-unfoldable pub pairVerdict : (body : List ℕ) (p words i : ℕ) → Verdict
-pairVerdict b p words i =
+unfoldable pub pair_verdict : (body : List ℕ) (p words i : ℕ) → Verdict
+pair_verdict b p words i =
     need (ltb (byte_at b (p + 2 * i + 1)) words) BadList
     (need (rises b p i) BadList
-    (need (sizeUpTo maxCoef (i8At b (p + 2 * i + 2))) OutOfRange
-    (need (not (isZero (i8At b (p + 2 * i + 2)))) OutOfRange
+    (need (size_up_to max_coef (i8_at b (p + 2 * i + 2))) OutOfRange
+    (need (not (is_zero (i8_at b (p + 2 * i + 2)))) OutOfRange
     Accepted)))
 
 -- the first refusal of f 0, f 1, .., f (n - 1), or Accepted
@@ -118,69 +118,69 @@ first_of zero f = Accepted
 first_of (suc n) f = after (first_of n f) (f n)
 
 -- "a count that disagrees with a fitting length is 7": `count` is the length's
-unfoldable pub listVerdict : (body : List ℕ) (p words count : ℕ) → Verdict
-listVerdict b p words count = need (eqb (byte_at b p) count) BadList (first_of count (pairVerdict b p words))
+unfoldable pub list_verdict : (body : List ℕ) (p words count : ℕ) → Verdict
+list_verdict b p words count = need (eqb (byte_at b p) count) BadList (first_of count (pair_verdict b p words))
 
-abbrev pub pairFrom : (body : List ℕ) (p i : ℕ) → Item
-pairFrom b p i = record { word = byte_at b (p + 2 * i + 1); coef = i8At b (p + 2 * i + 2) }
+abbrev pub pair_from : (body : List ℕ) (p i : ℕ) → Item
+pair_from b p i = record { word = byte_at b (p + 2 * i + 1); coef = i8_at b (p + 2 * i + 2) }
 
 abbrev pub list_from : (body : List ℕ) (p count : ℕ) → List Item
-list_from b p count = take count (pairFrom b p 0 ∷ pairFrom b p 1 ∷ pairFrom b p 2 ∷ pairFrom b p 3 ∷ [])
+list_from b p count = take count (pair_from b p 0 ∷ pair_from b p 1 ∷ pair_from b p 2 ∷ pair_from b p 3 ∷ [])
 
 -- ---- each field's body b: "its numbers and list 5 or 7 in file order, then 6", and what it holds
 -- "1 word: lower, upper, key time, start (each 0 to 262,144), slope (0 to 65,535)"
-unfoldable pub wordVerdict : List ℕ → Verdict
-wordVerdict b =
-    need (up_to maxTime (u32_at b 0)) OutOfRange
-    (need (up_to maxTime (u32_at b 4)) OutOfRange
-    (need (up_to maxTime (u32_at b 8)) OutOfRange
-    (need (up_to maxTime (u32_at b 12)) OutOfRange
-    (need (up_to maxSlope (u32_at b 16)) OutOfRange
+unfoldable pub word_verdict : List ℕ → Verdict
+word_verdict b =
+    need (up_to max_time (u32_at b 0)) OutOfRange
+    (need (up_to max_time (u32_at b 4)) OutOfRange
+    (need (up_to max_time (u32_at b 8)) OutOfRange
+    (need (up_to max_time (u32_at b 12)) OutOfRange
+    (need (up_to max_slope (u32_at b 16)) OutOfRange
     (need (leb (u32_at b 0) (u32_at b 4)) CrossedBounds
     Accepted)))))
 
-abbrev pub wordFrom : List ℕ → Word
-wordFrom b = record { lower = u32_at b 0; upper = u32_at b 4; key = u32_at b 8; start = u32_at b 12; slope = u32_at b 16 }
+abbrev pub word_from : List ℕ → Word
+word_from b = record { lower = u32_at b 0; upper = u32_at b 4; key = u32_at b 8; start = u32_at b 12; slope = u32_at b 16 }
 
 -- "2 tempo: weight (16-bit, 1 to 64), target, list"
-unfoldable pub tempoVerdict : (body : List ℕ) (words count : ℕ) → Verdict
-tempoVerdict b words count =
-    need (oneTo maxWeight (u16At b 0)) OutOfRange
-    (need (sizeUpTo maxSum (i32At b 2)) OutOfRange
-    (listVerdict b 6 words count))
+unfoldable pub tempo_verdict : (body : List ℕ) (words count : ℕ) → Verdict
+tempo_verdict b words count =
+    need (one_to max_weight (u16_at b 0)) OutOfRange
+    (need (size_up_to max_sum (i32_at b 2)) OutOfRange
+    (list_verdict b 6 words count))
 
-abbrev pub tempoFrom : (body : List ℕ) (count : ℕ) → Tempo
-tempoFrom b count = record { weight = u16At b 0; target = i32At b 2; list = list_from b 6 count }
+abbrev pub tempo_from : (body : List ℕ) (count : ℕ) → Tempo
+tempo_from b count = record { weight = u16_at b 0; target = i32_at b 2; list = list_from b 6 count }
 
 -- "3 anchor: value, list"
-unfoldable pub anchorVerdict : (body : List ℕ) (words count : ℕ) → Verdict
-anchorVerdict b words count =
-    need (sizeUpTo maxSum (i32At b 0)) OutOfRange
-    (listVerdict b 4 words count)
+unfoldable pub anchor_verdict : (body : List ℕ) (words count : ℕ) → Verdict
+anchor_verdict b words count =
+    need (size_up_to max_sum (i32_at b 0)) OutOfRange
+    (list_verdict b 4 words count)
 
-abbrev pub anchorFrom : (body : List ℕ) (count : ℕ) → Anchor
-anchorFrom b count = record { value = i32At b 0; list = list_from b 4 count }
+abbrev pub anchor_from : (body : List ℕ) (count : ℕ) → Anchor
+anchor_from b count = record { value = i32_at b 0; list = list_from b 4 count }
 
 -- "4 span: lower, upper, list"
-unfoldable pub spanVerdict : (body : List ℕ) (words count : ℕ) → Verdict
-spanVerdict b words count =
-    need (sizeUpTo maxSum (i32At b 0)) OutOfRange
-    (need (sizeUpTo maxSum (i32At b 4)) OutOfRange
-    (after (listVerdict b 8 words count)
-    (need (le_z (i32At b 0) (i32At b 4)) CrossedBounds
+unfoldable pub span_verdict : (body : List ℕ) (words count : ℕ) → Verdict
+span_verdict b words count =
+    need (size_up_to max_sum (i32_at b 0)) OutOfRange
+    (need (size_up_to max_sum (i32_at b 4)) OutOfRange
+    (after (list_verdict b 8 words count)
+    (need (le_z (i32_at b 0) (i32_at b 4)) CrossedBounds
     Accepted)))
 
-abbrev pub spanFrom : (body : List ℕ) (count : ℕ) → Span
-spanFrom b count = record { lower = i32At b 0; upper = i32At b 4; list = list_from b 8 count }
+abbrev pub span_from : (body : List ℕ) (count : ℕ) → Span
+span_from b count = record { lower = i32_at b 0; upper = i32_at b 4; list = list_from b 8 count }
 
 -- "5 cap: 0 to 8,388,608"
-unfoldable pub capVerdict : List ℕ → Verdict
-capVerdict b = need (up_to maxSum (u32_at b 0)) OutOfRange Accepted
+unfoldable pub cap_verdict : List ℕ → Verdict
+cap_verdict b = need (up_to max_sum (u32_at b 0)) OutOfRange Accepted
 
 -- ---- "A length that fits no count of its tag is 1"
 -- the count of the list in a body of n bytes, `fixed` of which stand before its pairs; 0 where none fits
-unfoldable pub pairsIn : (fixed length : ℕ) → ℕ
-pairsIn fixed n =
+unfoldable pub pairs_in : (fixed length : ℕ) → ℕ
+pairs_in fixed n =
     pick (eqb n (fixed + 2)) 1
     (pick (eqb n (fixed + 4)) 2
     (pick (eqb n (fixed + 6)) 3
@@ -190,10 +190,10 @@ pairsIn fixed n =
 -- the count of a field of tag t and length n, 1 for a tag without a list; 0 where the tag has no such length
 unfoldable pub count : (tag length : ℕ) → ℕ
 count t n =
-    pick (eqb t wordTag) (pick (eqb n 20) 1 0)
-    (pick (eqb t tempoTag) (pairsIn 7 n)
-    (pick (eqb t anchorTag) (pairsIn 5 n)
-    (pick (eqb t spanTag) (pairsIn 9 n)
+    pick (eqb t word_tag) (pick (eqb n 20) 1 0)
+    (pick (eqb t tempo_tag) (pairs_in 7 n)
+    (pick (eqb t anchor_tag) (pairs_in 5 n)
+    (pick (eqb t span_tag) (pairs_in 9 n)
     (pick (eqb n 4) 1 0))))
 
 abbrev pub count_of : List ℕ → ℕ
@@ -201,65 +201,65 @@ count_of r = count (tag r) (len r)
 
 -- ---- a field. `last` is the tag of the field before, 0 before the first; `so` how many fields of each tag stand before
 -- "Tags never fall", and the cap is last: after it no tag is in order
-abbrev pub inOrder : (last tag : ℕ) → Bool
-inOrder last t = both (ltb last capTag) (leb last t)
+abbrev pub in_order : (last tag : ℕ) → Bool
+in_order last t = both (ltb last cap_tag) (leb last t)
 
-unfoldable pub hasRoom : (tag : ℕ) → Counts → Bool
-hasRoom t so =
-    pick (eqb t wordTag) (ltb so.words maxWords)
-    (pick (eqb t tempoTag) (ltb so.tempos maxTempos)
-    (pick (eqb t anchorTag) (ltb so.anchors maxAnchors)
-    (pick (eqb t spanTag) (ltb so.spans maxSpans)
+unfoldable pub has_room : (tag : ℕ) → Counts → Bool
+has_room t so =
+    pick (eqb t word_tag) (ltb so.words max_words)
+    (pick (eqb t tempo_tag) (ltb so.tempos max_tempos)
+    (pick (eqb t anchor_tag) (ltb so.anchors max_anchors)
+    (pick (eqb t span_tag) (ltb so.spans max_spans)
     true)))
 
 -- "a cut header 1, then 2, 3, 4, then a wrong length or a cut body 1"
-unfoldable pub headVerdict : (r : List ℕ) (last : ℕ) → Counts → Verdict
-headVerdict r last so =
+unfoldable pub head_verdict : (r : List ℕ) (last : ℕ) → Counts → Verdict
+head_verdict r last so =
     need (leb 3 (length r)) BadLength
-    (need (oneTo capTag (tag r)) UnknownTag
-    (need (inOrder last (tag r)) OutOfOrder
-    (need (hasRoom (tag r) so) TooMany
+    (need (one_to cap_tag (tag r)) UnknownTag
+    (need (in_order last (tag r)) OutOfOrder
+    (need (has_room (tag r) so) TooMany
     (need (leb 1 (count_of r)) BadLength
     (need (leb (len r) (length r - 3)) BadLength
     Accepted)))))
 
-unfoldable pub bodyVerdict : (tag : ℕ) (body : List ℕ) (words count : ℕ) → Verdict
-bodyVerdict t b words n =
-    pick (eqb t wordTag) (wordVerdict b)
-    (pick (eqb t tempoTag) (tempoVerdict b words n)
-    (pick (eqb t anchorTag) (anchorVerdict b words n)
-    (pick (eqb t spanTag) (spanVerdict b words n)
-    (capVerdict b))))
+unfoldable pub body_verdict : (tag : ℕ) (body : List ℕ) (words count : ℕ) → Verdict
+body_verdict t b words n =
+    pick (eqb t word_tag) (word_verdict b)
+    (pick (eqb t tempo_tag) (tempo_verdict b words n)
+    (pick (eqb t anchor_tag) (anchor_verdict b words n)
+    (pick (eqb t span_tag) (span_verdict b words n)
+    (cap_verdict b))))
 
-unfoldable pub fieldVerdict : (r : List ℕ) (last : ℕ) → Counts → Verdict
-fieldVerdict r last so = after (headVerdict r last so) (bodyVerdict (tag r) (body r) so.words (count_of r))
+unfoldable pub field_verdict : (r : List ℕ) (last : ℕ) → Counts → Verdict
+field_verdict r last so = after (head_verdict r last so) (body_verdict (tag r) (body r) so.words (count_of r))
 
 -- the block with one field more
-abbrev pub withWord : Word → Block → Block
-withWord w b = record { words = b.words ++ (w ∷ []); tempos = b.tempos; anchors = b.anchors; spans = b.spans; cap = b.cap }
+abbrev pub with_word : Word → Block → Block
+with_word w b = record { words = b.words ++ (w ∷ []); tempos = b.tempos; anchors = b.anchors; spans = b.spans; cap = b.cap }
 
-abbrev pub withTempo : Tempo → Block → Block
-withTempo t b = record { words = b.words; tempos = b.tempos ++ (t ∷ []); anchors = b.anchors; spans = b.spans; cap = b.cap }
+abbrev pub with_tempo : Tempo → Block → Block
+with_tempo t b = record { words = b.words; tempos = b.tempos ++ (t ∷ []); anchors = b.anchors; spans = b.spans; cap = b.cap }
 
-abbrev pub withAnchor : Anchor → Block → Block
-withAnchor a b = record { words = b.words; tempos = b.tempos; anchors = b.anchors ++ (a ∷ []); spans = b.spans; cap = b.cap }
+abbrev pub with_anchor : Anchor → Block → Block
+with_anchor a b = record { words = b.words; tempos = b.tempos; anchors = b.anchors ++ (a ∷ []); spans = b.spans; cap = b.cap }
 
-abbrev pub withSpan : Span → Block → Block
-withSpan s b = record { words = b.words; tempos = b.tempos; anchors = b.anchors; spans = b.spans ++ (s ∷ []); cap = b.cap }
+abbrev pub with_span : Span → Block → Block
+with_span s b = record { words = b.words; tempos = b.tempos; anchors = b.anchors; spans = b.spans ++ (s ∷ []); cap = b.cap }
 
-abbrev pub withCap : (cap : ℕ) → Block → Block
-withCap n b = record { words = b.words; tempos = b.tempos; anchors = b.anchors; spans = b.spans; cap = n }
+abbrev pub with_cap : (cap : ℕ) → Block → Block
+with_cap n b = record { words = b.words; tempos = b.tempos; anchors = b.anchors; spans = b.spans; cap = n }
 
-unfoldable pub withBody : (tag : ℕ) (body : List ℕ) (count : ℕ) → Block → Block
-withBody t b n k =
-    pick (eqb t wordTag) (withWord (wordFrom b) k)
-    (pick (eqb t tempoTag) (withTempo (tempoFrom b n) k)
-    (pick (eqb t anchorTag) (withAnchor (anchorFrom b n) k)
-    (pick (eqb t spanTag) (withSpan (spanFrom b n) k)
-    (withCap (u32_at b 0) k))))
+unfoldable pub with_body : (tag : ℕ) (body : List ℕ) (count : ℕ) → Block → Block
+with_body t b n k =
+    pick (eqb t word_tag) (with_word (word_from b) k)
+    (pick (eqb t tempo_tag) (with_tempo (tempo_from b n) k)
+    (pick (eqb t anchor_tag) (with_anchor (anchor_from b n) k)
+    (pick (eqb t span_tag) (with_span (span_from b n) k)
+    (with_cap (u32_at b 0) k))))
 
-abbrev pub withField : (r : List ℕ) → Block → Block
-withField r k = withBody (tag r) (body r) (count_of r) k
+abbrev pub with_field : (r : List ℕ) → Block → Block
+with_field r k = with_body (tag r) (body r) (count_of r) k
 
 -- ---- the file. "Fields are judged left to right"
 pub data Outcome : Type 0 where
@@ -270,10 +270,10 @@ abbrev pub outcome : Verdict → Block → Outcome
 outcome v b = pick (accepted v) (block b) (refused (number v))
 
 -- "at the end 3": "no word, no cap"
-unfoldable pub endVerdict : (last words : ℕ) → Verdict
-endVerdict last words =
+unfoldable pub end_verdict : (last words : ℕ) → Verdict
+end_verdict last words =
     need (leb 1 words) OutOfOrder
-    (need (eqb last capTag) OutOfOrder
+    (need (eqb last cap_tag) OutOfOrder
     Accepted)
 
 unfoldable pub counts : Block → Counts
@@ -281,11 +281,11 @@ counts b = record { words = length b.words; tempos = length b.tempos; anchors = 
 
 -- the fields of r, of which there are at most `most`, after those of b
 unfoldable pub fields : (most : ℕ) (r : List ℕ) (last : ℕ) → Block → Outcome
-fields zero r last b = outcome (endVerdict last (length b.words)) b
+fields zero r last b = outcome (end_verdict last (length b.words)) b
 fields (suc most) r last b =
-    let v = fieldVerdict r last (counts b) in
-    let rest = fields most (drop (3 + len r) r) (tag r) (withField r b) in
-    pick (eqb (length r) 0) (outcome (endVerdict last (length b.words)) b)
+    let v = field_verdict r last (counts b) in
+    let rest = fields most (drop (3 + len r) r) (tag r) (with_field r b) in
+    pick (eqb (length r) 0) (outcome (end_verdict last (length b.words)) b)
     (pick (accepted v) rest (refused (number v)))
 
 abbrev pub empty : Block

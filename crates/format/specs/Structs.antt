@@ -2,7 +2,7 @@
 use Rattle.std.specs.Prelude.{◌≡◌, refl, List, [], ◌∷◌, ◌++◌, map, ℕ, zero, suc, ◌+◌, ◌≤◌, ◌<◌, length, take, set, get_or, pos}
 use Rattle.std.proofs.Common.{ap, add-one, le_of_suc-le-suc, not-suc-le-zero}
 use Rattle.block.specs.Block as Spec
-use Rattle.block.specs.Ranges.{maxWords, maxTempos, maxAnchors, maxSpans, maxPairs}
+use Rattle.block.specs.Ranges.{max_words, max_tempos, max_anchors, max_spans, max_pairs}
 use Rattle.format.specs.Read.{Outcome, outcome}
 use Rattle.format.specs.declared.Word.{Word}
 use Rattle.format.specs.declared.Pair.{Pair}
@@ -23,11 +23,11 @@ pair_of p = record { word = p.word; coef = p.coef }
 abbrev pub list_of : Pairs → List Spec.Item
 list_of l = map pair_of (take l.count l.pair)
 
-abbrev pub tempoOf : Tempo → Spec.Tempo
-tempoOf t = record { weight = t.weight; target = t.target; list = list_of t.list }
+abbrev pub tempo_of : Tempo → Spec.Tempo
+tempo_of t = record { weight = t.weight; target = t.target; list = list_of t.list }
 
-abbrev pub anchorOf : Anchor → Spec.Anchor
-anchorOf a = record { value = a.value; list = list_of a.list }
+abbrev pub anchor_of : Anchor → Spec.Anchor
+anchor_of a = record { value = a.value; list = list_of a.list }
 
 abbrev pub span_of : Span → Spec.Span
 span_of s = record { lower = s.lower; upper = s.upper; list = list_of s.list }
@@ -36,25 +36,25 @@ unfoldable pub block_of : Block → Spec.Block
 block_of b =
     record {
       words = map word_of (take b.words b.word);
-      tempos = map tempoOf (take b.tempos b.tempo);
-      anchors = map anchorOf (take b.anchors b.anchor);
+      tempos = map tempo_of (take b.tempos b.tempo);
+      anchors = map anchor_of (take b.anchors b.anchor);
       spans = map span_of (take b.spans b.span);
       cap = b.cap;
     }
 
-abbrev pub countsOf : Block → Counts
-countsOf b = record { words = b.words; tempos = b.tempos; anchors = b.anchors; spans = b.spans }
+abbrev pub counts_of : Block → Counts
+counts_of b = record { words = b.words; tempos = b.tempos; anchors = b.anchors; spans = b.spans }
 
 abbrev pub read_of : Reading → Outcome
 read_of a = outcome a.verdict (block_of a.block)
 
 -- ---- the arrays: as long as their types have them, and no count above its array's length
 pub record Filled (l : Pairs) : Type 0 where
-  pub count : l.count ≤ maxPairs
-  pub pair : length l.pair ≡ maxPairs
+  pub count : l.count ≤ max_pairs
+  pub pair : length l.pair ≡ max_pairs
 
-abbrev pub noPairs : Pairs
-noPairs = record { count = 0; pair = [] }
+abbrev pub no_pairs : Pairs
+no_pairs = record { count = 0; pair = [] }
 
 abbrev pub pair_at : Pairs → (k : ℕ) → Pair
 pair_at l k = get_or l.pair k (record { word = 0; coef = pos 0 })
@@ -62,27 +62,27 @@ pair_at l k = get_or l.pair k (record { word = 0; coef = pos 0 })
 abbrev pub word_at : Block → (i : ℕ) → Word
 word_at b i = get_or b.word i (record { lower = 0; upper = 0; key = 0; start = 0; slope = 0 })
 
-abbrev pub tempoAt : Block → (j : ℕ) → Tempo
-tempoAt b j = get_or b.tempo j (record { weight = 0; target = pos 0; list = noPairs })
+abbrev pub tempo_at : Block → (j : ℕ) → Tempo
+tempo_at b j = get_or b.tempo j (record { weight = 0; target = pos 0; list = no_pairs })
 
-abbrev pub anchorAt : Block → (k : ℕ) → Anchor
-anchorAt b k = get_or b.anchor k (record { value = pos 0; list = noPairs })
+abbrev pub anchor_at : Block → (k : ℕ) → Anchor
+anchor_at b k = get_or b.anchor k (record { value = pos 0; list = no_pairs })
 
-abbrev pub spanAt : Block → (k : ℕ) → Span
-spanAt b k = get_or b.span k (record { lower = pos 0; upper = pos 0; list = noPairs })
+abbrev pub span_at : Block → (k : ℕ) → Span
+span_at b k = get_or b.span k (record { lower = pos 0; upper = pos 0; list = no_pairs })
 
 pub record Sound (b : Block) : Type 0 where
-  pub words : b.words ≤ maxWords
-  pub tempos : b.tempos ≤ maxTempos
-  pub anchors : b.anchors ≤ maxAnchors
-  pub spans : b.spans ≤ maxSpans
-  pub word : length b.word ≡ maxWords
-  pub tempo : length b.tempo ≡ maxTempos
-  pub anchor : length b.anchor ≡ maxAnchors
-  pub span : length b.span ≡ maxSpans
-  pub tempo-list : (j : ℕ) → j < b.tempos → Filled (tempoAt b j).list
-  pub anchor-list : (k : ℕ) → k < b.anchors → Filled (anchorAt b k).list
-  pub span-list : (k : ℕ) → k < b.spans → Filled (spanAt b k).list
+  pub words : b.words ≤ max_words
+  pub tempos : b.tempos ≤ max_tempos
+  pub anchors : b.anchors ≤ max_anchors
+  pub spans : b.spans ≤ max_spans
+  pub word : length b.word ≡ max_words
+  pub tempo : length b.tempo ≡ max_tempos
+  pub anchor : length b.anchor ≡ max_anchors
+  pub span : length b.span ≡ max_spans
+  pub tempo_list : (j : ℕ) → j < b.tempos → Filled (tempo_at b j).list
+  pub anchor_list : (k : ℕ) → k < b.anchors → Filled (anchor_at b k).list
+  pub span_list : (k : ℕ) → k < b.spans → Filled (span_at b k).list
 
 -- the first n of an array, by their number
 module _ {A B : Type 0} (f : A → B) where
@@ -99,8 +99,8 @@ module _ {A B : Type 0} (f : A → B) where
   entry-is (x ∷ xs) (suc n) (suc i) a b h k = entry-is xs n i a b (le_of_suc-le-suc h) (le_of_suc-le-suc k)
 
   -- one more at the end of the first n
-  pub one_more : (l : List A) (n : ℕ) (x : A) → n < length l → map f (take (n + 1) (set l n x)) ≡ map f (take n l) ++ (f x ∷ [])
-  one_more l n x h = rw (add-one n) (go l n x h)
+  pub one-more : (l : List A) (n : ℕ) (x : A) → n < length l → map f (take (n + 1) (set l n x)) ≡ map f (take n l) ++ (f x ∷ [])
+  one-more l n x h = rw (add-one n) (go l n x h)
     where
       go : (l : List A) (n : ℕ) (x : A) → n < length l → map f (take (suc n) (set l n x)) ≡ map f (take n l) ++ (f x ∷ [])
       go [] n x h = absurd (not-suc-le-zero h)

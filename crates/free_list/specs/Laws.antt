@@ -4,66 +4,66 @@ use Rattle.std.proofs.Math.Path.{refl}
 use Rattle.std.proofs.Math.Bool.{Bool}
 use Prim.Native.Nat.{ℕ, ◌<◌, ◌≤◌}
 use Rattle.std.proofs.Common.{arith}
-use Rattle.folds.specs.Fold.{over, false-true}
+use Rattle.folds.specs.Fold.{over, false_true}
 use Rattle.folds.specs.Tab.{taken-over}
-use Rattle.folds.specs.Chosen.{chosen, length-chosen, chosen-below, chosen-passes, chosen-rises, chosen-lead, chosen-from}
-use Rattle.folds.specs.Position.{partitionPoint, split-chosen}
+use Rattle.folds.specs.Chosen.{chosen, length-chosen, chosen-below, chosen-passes, chosen-rises, chosen_lead, chosen-from}
+use Rattle.folds.specs.Position.{partition_point, split-chosen}
 use Rattle.sizes.specs.Sizes as Sizes
-use Rattle.segments.specs.Segments.{stateAt, IsFree, AllCut, AllPlaced}
+use Rattle.segments.specs.Segments.{state_at, IsFree, AllCut, AllPlaced}
 use Rattle.segments.specs.declared.Segments.{Segments}
 use Rattle.segments.specs.declared.State.{State}
 use Rattle.segments.specs.declared.State.TheVariants.{At, Free}
 use Rattle.segments.specs.declared.Spot.{Spot}
 pub use Rattle.lent_segments.specs.Laws.{length-entries, taken-entries}
-use Rattle.free_list.specs.FreeList.{isFree, freeIndices, Listed, lowerEnds, upperEnds, Ends}
+use Rattle.free_list.specs.FreeList.{is_free, free_indices, Listed, lower_ends, upper_ends, Ends}
 
 -- ---- the free variables: below n, and rising
 module _ (n : ℕ) (state : List Spot) where
-  pub free-chosen : freeIndices n state ≡ chosen n (λ i. isFree (stateAt state i))
-  unfolding freeIndices
+  pub free-chosen : free_indices n state ≡ chosen n (λ i. is_free (state_at state i))
+  unfolding free_indices
   free-chosen = refl
 
-  pub free-few : length (freeIndices n state) ≤ n
-  unfolding freeIndices
-  free-few = length-chosen n (λ i. isFree (stateAt state i))
+  pub free-few : length (free_indices n state) ≤ n
+  unfolding free_indices
+  free-few = length-chosen n (λ i. is_free (state_at state i))
 
-  pub free-below : (k : ℕ) → k < length (freeIndices n state) → get_or (freeIndices n state) k 0 < n
-  unfolding freeIndices
-  free-below k h = chosen-below n (λ i. isFree (stateAt state i)) k h
+  pub free-below : (k : ℕ) → k < length (free_indices n state) → get_or (free_indices n state) k 0 < n
+  unfolding free_indices
+  free-below k h = chosen-below n (λ i. is_free (state_at state i)) k h
 
-  pub free-rising : (i k : ℕ) → i < k → k < length (freeIndices n state) → get_or (freeIndices n state) i 0 < get_or (freeIndices n state) k 0
-  unfolding freeIndices
-  free-rising i k h l = chosen-rises n (λ i. isFree (stateAt state i)) i k h l
+  pub free-rising : (i k : ℕ) → i < k → k < length (free_indices n state) → get_or (free_indices n state) i 0 < get_or (free_indices n state) k 0
+  unfolding free_indices
+  free-rising i k h l = chosen-rises n (λ i. is_free (state_at state i)) i k h l
 
 -- ---- `split_slacks`: the free originals come first, and the rest are slacks
 module _ (originals n : ℕ) (state : List Spot) (few : originals ≤ n) where
-  pub free-originals : take (partitionPoint originals (freeIndices n state)) (freeIndices n state) ≡ freeIndices originals state
-  unfolding freeIndices
+  pub free-originals : take (partition_point originals (free_indices n state)) (free_indices n state) ≡ free_indices originals state
+  unfolding free_indices
   free-originals =
-      let p : ℕ → Bool = λ i. isFree (stateAt state i) in
-      rw (split-chosen originals n p few) (chosen-lead originals n p few)
+      let p : ℕ → Bool = λ i. is_free (state_at state i) in
+      rw (split-chosen originals n p few) (chosen_lead originals n p few)
 
-  pub free-slacks : (t : ℕ) → partitionPoint originals (freeIndices n state) ≤ t → t < length (freeIndices n state) →
-      (originals ≤ get_or (freeIndices n state) t 0) × (get_or (freeIndices n state) t 0 < n)
-  unfolding freeIndices
+  pub free-slacks : (t : ℕ) → partition_point originals (free_indices n state) ≤ t → t < length (free_indices n state) →
+      (originals ≤ get_or (free_indices n state) t 0) × (get_or (free_indices n state) t 0 < n)
+  unfolding free_indices
   free-slacks t h l =
-      let p : ℕ → Bool = λ i. isFree (stateAt state i) in
+      let p : ℕ → Bool = λ i. is_free (state_at state i) in
       (chosen-from originals n p t few (rw (split-chosen originals n p few) at h) l, chosen-below n p t l)
 
 -- ---- each is free
-is_free : (t : State) → isFree t ≡ true → IsFree t
-unfolding isFree
-is_free (At p) e = false-true e
-is_free (Free j) e = tt
+is-free : (t : State) → is_free t ≡ true → IsFree t
+unfolding is_free
+is-free (At p) e = false_true e
+is-free (Free j) e = tt
 
 -- of a list that is theirs
-module _ (n : ℕ) (state : List Spot) {l : List ℕ} (e : l ≡ freeIndices n state) where
+module _ (n : ℕ) (state : List Spot) {l : List ℕ} (e : l ≡ free_indices n state) where
   pub listed_below : (k : ℕ) → k < length l → get_or l k 0 < n
   listed_below k h = rw e (free-below n state k (rw e at h))
 
-  pub listed_free : (k : ℕ) → k < length l → IsFree (stateAt state (get_or l k 0))
-  unfolding freeIndices
-  listed_free k h = rw e (is_free _ (chosen-passes n (λ i. isFree (stateAt state i)) k (rw e at h)))
+  pub listed_free : (k : ℕ) → k < length l → IsFree (state_at state (get_or l k 0))
+  unfolding free_indices
+  listed_free k h = rw e (is-free _ (chosen-passes n (λ i. is_free (state_at state i)) k (rw e at h)))
 
   pub listed : (segments : List Segments) → n ≤ Sizes.variables → AllCut n segments → AllPlaced n segments state → Listed l segments state
   listed segments few cut placed =
@@ -74,10 +74,10 @@ module _ (n : ℕ) (state : List Spot) {l : List ℕ} (e : l ≡ freeIndices n s
 
 -- ---- the lists made of them: what is written over the start of two lists, for the free variables listed
 pub ends-taken : (n : ℕ) (segments : List Segments) (state : List Spot) {l : List ℕ} {lower upper : List Float} (o p : List Float) →
-    l ≡ freeIndices n state → lower ≡ over (lowerEnds (length l) l segments state) o → upper ≡ over (upperEnds (length l) l segments state) p →
+    l ≡ free_indices n state → lower ≡ over (lower_ends (length l) l segments state) o → upper ≡ over (upper_ends (length l) l segments state) p →
     Ends n segments state (take (length l) lower) (take (length l) upper)
 ends-taken n segments state {l} o p e f g =
     record {
-      lower-is = rw (← e) (taken-over _ o (length-entries (λ s. s.lower) l segments state _) f);
+      lower_is = rw (← e) (taken-over _ o (length-entries (λ s. s.lower) l segments state _) f);
       upper_is = rw (← e) (taken-over _ p (length-entries (λ s. s.upper) l segments state _) g);
     }

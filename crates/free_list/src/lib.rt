@@ -1,7 +1,7 @@
 // qp.rs: the free variables of a pass: their list, its split into variables and slacks, and the ends and slopes of their segments.
 ghost use Rattle.std.specs.Prelude.{◌≡◌, ◌≤◌, length, take};
 ghost use Rattle.folds.specs.Fold.{over};
-ghost use Rattle.folds.specs.Position.{partitionPoint};
+ghost use Rattle.folds.specs.Position.{partition_point};
 ghost use Rattle.sizes.specs.Sizes as Sizes;
 ghost use Rattle.free_list.specs.FreeList as FreeList;
 ghost use Rattle.free_list.specs.FreeList.{Listed};
@@ -10,7 +10,7 @@ use segments::{Segments, Spot, State};
 
 // The variables, the leading part of `indices`; the slacks are the rest.
 pub fn split_slacks<'a>(indices: &'a [usize], originals: usize) -> &'a [usize]
-    ensures { result.now ≡ take (partitionPoint originals indices.now) indices.now }
+    ensures { result.now ≡ take (partition_point originals indices.now) indices.now }
 {
     for i in 0..indices.len() {
         if indices[i] >= originals {
@@ -21,7 +21,7 @@ pub fn split_slacks<'a>(indices: &'a [usize], originals: usize) -> &'a [usize]
 }
 
 fn is_free(spot: Spot) -> bool
-    ensures { result ≡ FreeList.isFree spot.state }
+    ensures { result ≡ FreeList.is_free spot.state }
 {
     let state = spot.state;
     match state {
@@ -33,8 +33,8 @@ fn is_free(spot: Spot) -> bool
 // The free ones of the first n, over the start of `indices`, and how many they are.
 pub fn free_indices(state: [Spot; sizes::VARIABLES], n: usize, indices: &mut [usize]) -> usize
     requires { (n ≤ Sizes.variables) × (n ≤ length indices.old) }
-    ensures { (result ≡ length (FreeList.freeIndices n state))
-        × (indices.new ≡ over (FreeList.freeIndices n state) indices.old) }
+    ensures { (result ≡ length (FreeList.free_indices n state))
+        × (indices.new ≡ over (FreeList.free_indices n state) indices.old) }
 {
     let mut count = 0;
     for i in 0..n {
@@ -57,9 +57,9 @@ pub fn ends_and_slopes(
         × (length indices.now ≤ length upper.old)
         × (length indices.now ≤ length slope.old) }
     ensures { (lower.new
-        ≡ over (FreeList.lowerEnds (length indices.now) indices.now segments state) lower.old)
+        ≡ over (FreeList.lower_ends (length indices.now) indices.now segments state) lower.old)
         × (upper.new
-        ≡ over (FreeList.upperEnds (length indices.now) indices.now segments state) upper.old)
+        ≡ over (FreeList.upper_ends (length indices.now) indices.now segments state) upper.old)
         × (slope.new
         ≡ over (FreeList.slopes (length indices.now) indices.now segments state) slope.old) }
 {

@@ -2,9 +2,9 @@
 // slacks, each with one of the last columns of E.
 ghost use Rattle.std.specs.Prelude.{◌≡◌, ◌≤◌, ◌*◌, length, take};
 ghost use Rattle.vector.specs.Vector.{Below};
-ghost use Rattle.matrix.specs.Matrix.{selectRows};
+ghost use Rattle.matrix.specs.Matrix.{select_rows};
 ghost use Rattle.slack_rows.specs.SlackRows.{Rows, Solved};
-ghost use Rattle.iterate.specs.Problem.{Shaped, firstSlackColumn, problem};
+ghost use Rattle.iterate.specs.Problem.{Shaped, first_slack_column, problem};
 ghost use Rattle.free_problem.specs.FreeProblem as Definition;
 
 use iterate::Counts;
@@ -38,7 +38,7 @@ fn submatrix(
         × (length rows.now * m ≤ length room.old)
         × (length rows.now * length columns.now ≤ length y.old) }
     ensures room_after { take (length rows.now * m) room.new
-        ≡ selectRows n m a.now (length rows.now) rows.now }
+        ≡ select_rows n m a.now (length rows.now) rows.now }
     ensures y_after { take (length rows.now * length columns.now) y.new
         ≡ Definition.submatrix n m a.now rows.now columns.now }
 {
@@ -66,14 +66,14 @@ pub fn gather(
     requires { Shaped counts.originals counts.n counts.m q.now c.now e.now b.now
         × (counts.n ≤ length x.now)
         × Solved counts.n counts.m e.now solved.now
-        × Rows counts.n counts.m counts.originals (firstSlackColumn counts.originals counts.n counts.m) slacks.now
+        × Rows counts.n counts.m counts.originals (first_slack_column counts.originals counts.n counts.m) slacks.now
         × (length solved.now ≤ counts.originals)
         × (length solved.now ≤ length slope.now)
         × (counts.originals * counts.n ≤ length room.old)
         × (counts.originals * counts.m ≤ length room.old)
         × (counts.originals * counts.originals ≤ length q_free.old)
         × (counts.originals * counts.m ≤ length e_free.old) }
-    ensures e_free_after { Definition.gatheredOf (length solved.now) counts.m result q_free.new e_free.new
+    ensures e_free_after { Definition.gathered_of (length solved.now) counts.m result q_free.new e_free.new
         ≡ Definition.gather (problem counts.originals counts.n counts.m q.now c.now e.now b.now)
         x.now solved.now slacks.now slope.now }
     ensures lists { Definition.Lists (length solved.now) counts.m result }

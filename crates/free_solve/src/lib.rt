@@ -2,11 +2,11 @@
 // on them, and otherwise, or if that misses, from the eigendecomposition. K is n by n, E is n by m.
 ghost use Rattle.std.specs.Prelude.{◌≡◌, Bool, List, ℕ, ◌≤◌, ◌*◌, length, take};
 ghost use Rattle.scaled.specs.System.{Sized, system};
-ghost use Rattle.factoring.specs.Kept.{factor, optionOf, keptOf, Good, Updatable};
-ghost use Rattle.range_space.specs.Factored.{foundOf};
+ghost use Rattle.factoring.specs.Kept.{factor, option_of, kept_of, Good, Updatable};
+ghost use Rattle.range_space.specs.Factored.{found_of};
 ghost use Rattle.solution.specs.Solution.{answer};
-ghost use Rattle.noisy_kkt.specs.NoisyKkt.{solveNoisyKkt};
-ghost use Rattle.free_problem.specs.FreeProblem.{gatheredOf, Lists};
+ghost use Rattle.noisy_kkt.specs.NoisyKkt.{solve_noisy_kkt};
+ghost use Rattle.free_problem.specs.FreeProblem.{gathered_of, Lists};
 ghost use Rattle.free_solve.specs.Regular.{Regular};
 ghost use Rattle.free_solve.specs.FreeSolve as Definition;
 
@@ -45,8 +45,8 @@ fn from_factor(
         × (m * m ≤ length gram.old)
         × (n ≤ length x.old)
         × (m ≤ length multipliers.old) }
-    ensures { (held : List Bool) → foundOf result (take n x.new) (take m multipliers.new)
-        ≡ Definition.fromFactor (optionOf factored held) l.now
+    ensures { (held : List Bool) → found_of result (take n x.new) (take m multipliers.new)
+        ≡ Definition.from_factor (option_of factored held) l.now
         (system n m k.now c.now e.now b.now) noise }
 {
     if factored {
@@ -69,7 +69,7 @@ fn noisy(
 ) -> KktVerdict
     requires { Sized n m k.now c.now e.now b.now × (n ≤ length x.old) × (m ≤ length multipliers.old) }
     ensures { answer result (take n x.new) (take m multipliers.new)
-        ≡ solveNoisyKkt (system n m k.now c.now e.now b.now) noise }
+        ≡ solve_noisy_kkt (system n m k.now c.now e.now b.now) noise }
 {
     let solution = noisy_kkt::solve_noisy_kkt(k, c, e, b, n, m, noise);
     let x_noisy = solution.x;
@@ -101,8 +101,8 @@ fn solve_updated(
         × (m * m ≤ length gram.old)
         × (n ≤ length x.old)
         × (m ≤ length multipliers.old) }
-    ensures l_after { Definition.solutionOf result (take n x.new) (take m multipliers.new) l.now
-        ≡ Definition.solveUpdated (factor (keptOf factoring) l.now)
+    ensures l_after { Definition.solution_of result (take n x.new) (take m multipliers.new) l.now
+        ≡ Definition.solve_updated (factor (kept_of factoring) l.now)
         (system n m k.now c.now e.now b.now) noise }
     ensures by_index { (o : ℕ) → Good o factoring l.now → Good o result.factoring l.now }
 {
@@ -158,10 +158,10 @@ pub fn solve_free(
         × (free.columns * free.columns ≤ length gram.old)
         × (length solved.now ≤ length x.old)
         × (free.columns ≤ length multipliers.old) }
-    ensures l_after { Definition.solutionOf result (take (length solved.now) x.new) (take free.columns multipliers.new)
+    ensures l_after { Definition.solution_of result (take (length solved.now) x.new) (take free.columns multipliers.new)
         l.new
-        ≡ Definition.solveFree q.now counts.n solved.now
-        (gatheredOf (length solved.now) counts.m free q_free.now e_free.now) (keptOf factoring)
+        ≡ Definition.solve_free q.now counts.n solved.now
+        (gathered_of (length solved.now) counts.m free q_free.now e_free.now) (kept_of factoring)
         l.old }
     ensures good { Good counts.originals result.factoring l.new }
 {

@@ -4,8 +4,8 @@ ghost use Rattle.std.specs.Prelude.{◌≡◌, ◌≤◌, ◌*◌, length, take}
 ghost use Rattle.solution.specs.Solution.{answer};
 ghost use Rattle.segments.specs.Segments.{AllCut};
 ghost use Rattle.free_list.specs.FreeList.{Ends};
-ghost use Rattle.iterate.specs.Iterate.{passedOf, Consistent};
-ghost use Rattle.free_problem.specs.FreeProblem.{gatheredOf, Lists};
+ghost use Rattle.iterate.specs.Iterate.{passed_of, Consistent};
+ghost use Rattle.free_problem.specs.FreeProblem.{gathered_of, Lists};
 ghost use Rattle.release_at.specs.ReleaseAt.{Shape};
 ghost use Rattle.full_step.specs.FullStep.{Split};
 ghost use Rattle.free_step.specs.FreeStep as FreeStep;
@@ -43,8 +43,8 @@ fn to_minimum(
         × (length delta.now ≡ length solved.now)
         × (length multipliers.now ≡ free.columns)
         × Ends counts.n segments iterate.board.state lower.now upper.now }
-    ensures result_value { passedOf counts.n counts.m result
-        ≡ FreeStep.toMinimum counts.originals counts.n counts.m q.now c.now e.now segments
+    ensures result_value { passed_of counts.n counts.m result
+        ≡ FreeStep.to_minimum counts.originals counts.n counts.m q.now c.now e.now segments
         fixed.now magnitudes.q magnitudes.linear solved.now slacks.now
         (take free.columns free.kept) (take counts.m free.residuals) delta.now multipliers.now iterate }
     ensures consistent { Consistent counts.n segments result.iterate }
@@ -78,7 +78,7 @@ fn to_minimum(
 
 fn all_zero(a: &[f64], n: usize) -> bool
     requires { n ≤ length a.now }
-    ensures { result ≡ FreeStep.allZero n a.now }
+    ensures { result ≡ FreeStep.all_zero n a.now }
 {
     for i in 0..n {
         if a[i] == 0.0 {} else {
@@ -110,9 +110,9 @@ fn descend(
         × (length solved.now * length solved.now ≤ length q_free.now)
         × (length solved.now * free.columns ≤ length e_free.now)
         × Ends counts.n segments iterate.board.state lower.now upper.now }
-    ensures result_value { passedOf counts.n counts.m result
+    ensures result_value { passed_of counts.n counts.m result
         ≡ FreeStep.descend counts.originals counts.n counts.m e.now segments solved.now slacks.now
-        (gatheredOf (length solved.now) counts.m free q_free.now e_free.now) iterate }
+        (gathered_of (length solved.now) counts.m free q_free.now e_free.now) iterate }
     ensures consistent { Consistent counts.n segments result.iterate }
 {
     let k = solved.len();
@@ -169,10 +169,10 @@ pub fn step(
         × (length solved.now * length solved.now ≤ length q_free.now)
         × (length solved.now * free.columns ≤ length e_free.now)
         × Ends counts.n segments iterate.board.state lower.now upper.now }
-    ensures result_value { passedOf counts.n counts.m result
+    ensures result_value { passed_of counts.n counts.m result
         ≡ FreeStep.step counts.originals counts.n counts.m q.now c.now e.now segments
         fixed.now magnitudes.q magnitudes.linear solved.now slacks.now
-        (gatheredOf (length solved.now) counts.m free q_free.now e_free.now) iterate
+        (gathered_of (length solved.now) counts.m free q_free.now e_free.now) iterate
         (answer verdict delta.now multipliers.now) }
     ensures consistent { Consistent counts.n segments result.iterate }
 {

@@ -5,13 +5,13 @@ use Rattle.segments.specs.Laws.{free-all-placed}
 use Rattle.segments.specs.declared.Segments.{Segments}
 use Rattle.iterate.specs.Iterate.{Consistent}
 use Rattle.iterate.specs.declared.Iterate.{Iterate}
-use Rattle.freeing.specs.Freeing.{noneFree, freeEverything}
+use Rattle.freeing.specs.Freeing.{none_free, free_everything}
 
-pub none_free : (solved : List ℕ) → noneFree solved ≡ eqb (length solved) 0
-unfolding noneFree
-none_free solved = refl
+pub none-free : (solved : List ℕ) → none_free solved ≡ eqb (length solved) 0
+unfolding none_free
+none-free solved = refl
 
-pub everything-consistent : (n : ℕ) (segments : List Segments) (fixed : List Bool) (i : Iterate) → AllCut n segments → Consistent n segments i →
-    Consistent n segments (freeEverything n segments fixed i)
-unfolding freeEverything
-everything-consistent n segments fixed i cut kept = record { placed = free-all-placed n segments fixed i.board.state cut kept.placed }
+pub everything_consistent : (n : ℕ) (segments : List Segments) (fixed : List Bool) (i : Iterate) → AllCut n segments → Consistent n segments i →
+    Consistent n segments (free_everything n segments fixed i)
+unfolding free_everything
+everything_consistent n segments fixed i cut kept = record { placed = free-all-placed n segments fixed i.board.state cut kept.placed }

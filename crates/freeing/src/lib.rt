@@ -11,14 +11,14 @@ use segments::Segments;
 
 // Whether no original is free: solved.is_empty().
 pub fn none_free(solved: &[usize]) -> bool
-    ensures { result ≡ Freeing.noneFree solved.now }
+    ensures { result ≡ Freeing.none_free solved.now }
 {
     solved.len() == 0
 }
 
 fn all_true(a: &[bool], n: usize) -> bool
     requires { n ≤ length a.now }
-    ensures { result ≡ Freeing.allTrue n a.now }
+    ensures { result ≡ Freeing.all_true n a.now }
 {
     for i in 0..n {
         if a[i] {} else {
@@ -31,7 +31,7 @@ fn all_true(a: &[bool], n: usize) -> bool
 // freed_at.as_ref() == Some(&x)
 fn freed_here(freed: bool, freed_at: &[f64], x: &[f64], n: usize) -> bool
     requires { (n ≤ length freed_at.now) × (n ≤ length x.now) }
-    ensures { result ≡ Freeing.freedHere n freed freed_at.now x.now }
+    ensures { result ≡ Freeing.freed_here n freed freed_at.now x.now }
 {
     if freed {
         return stepping::same_point(freed_at, x, n);
@@ -50,7 +50,7 @@ fn free_everything(
         × (n ≤ length fixed.now)
         × AllCut n segments
         × AllPlaced n segments iterate.board.state }
-    ensures { result ≡ Freeing.freeEverything n segments fixed.now iterate }
+    ensures { result ≡ Freeing.free_everything n segments fixed.now iterate }
 {
     let mut board = iterate.board;
     let x = board.x;

@@ -4,11 +4,11 @@ ghost use Rattle.std.specs.Prelude.{◌≡◌, ◌≤◌, ◌+◌, ◌-◌, leng
 ghost use Rattle.folds.specs.Fold.{over};
 ghost use Rattle.sizes.specs.Sizes as Sizes;
 ghost use Rattle.segments.specs.Segments.{AllCut, AllPlaced};
-ghost use Rattle.free_list.specs.FreeList.{Ends, Listed, freeIndices};
+ghost use Rattle.free_list.specs.FreeList.{Ends, Listed, free_indices};
 ghost use Rattle.step_length.specs.StepLength.{Entries};
-ghost use Rattle.slack_rows.specs.SlackRows.{Rows, Solved, withSlackSteps};
-ghost use Rattle.iterate.specs.Problem.{firstSlackColumn};
-ghost use Rattle.iterate.specs.Iterate.{passedOf, Gives, Leaves, Consistent};
+ghost use Rattle.slack_rows.specs.SlackRows.{Rows, Solved, with_slack_steps};
+ghost use Rattle.iterate.specs.Problem.{first_slack_column};
+ghost use Rattle.iterate.specs.Iterate.{passed_of, Gives, Leaves, Consistent};
 ghost use Rattle.blocked_step.specs.BlockedStep.{Keeps};
 ghost use Rattle.release_at.specs.ReleaseAt.{Shape};
 ghost use Rattle.full_step.specs.FullStep as FullStep;
@@ -30,14 +30,14 @@ pub fn slack_steps(
     requires { (counts.originals ≤ counts.n)
         × (counts.n - counts.originals ≤ counts.m)
         × Solved counts.n counts.m e.now solved.now
-        × Rows counts.n counts.m counts.originals (firstSlackColumn counts.originals counts.n counts.m) slacks.now
+        × Rows counts.n counts.m counts.originals (first_slack_column counts.originals counts.n counts.m) slacks.now
         × (length solved.now ≤ length step.now)
         × (counts.m ≤ length residuals.now)
         × (length solved.now + length slacks.now ≤ length all.old) }
     ensures { all.new
         ≡ over
-        (withSlackSteps e.now counts.n solved.now slacks.now step.now residuals.now
-        counts.originals (firstSlackColumn counts.originals counts.n counts.m))
+        (with_slack_steps e.now counts.n solved.now slacks.now step.now residuals.now
+        counts.originals (first_slack_column counts.originals counts.n counts.m))
         all.old }
 {
     let originals = counts.originals;
@@ -71,9 +71,9 @@ fn stepped(
         × AllCut counts.n segments
         × Consistent counts.n segments iterate
         × (counts.n ≤ length fixed.now)
-        × (indices.now ≡ freeIndices counts.n iterate.board.state)
+        × (indices.now ≡ free_indices counts.n iterate.board.state)
         × Entries (length indices.now) x_free.now target.now lower.now upper.now }
-    ensures result_value { passedOf counts.n counts.m result
+    ensures result_value { passed_of counts.n counts.m result
         ≡ FullStep.stepped counts.originals counts.n counts.m q.now c.now e.now segments
         fixed.now magnitudes.q magnitudes.linear indices.now tolerance x_free.now target.now
         lower.now upper.now (take counts.m multipliers) iterate }
@@ -126,7 +126,7 @@ fn ray_step(
     requires { Listed indices.now segments iterate.board.state
         × Entries (length indices.now) x_free.now direction.now lower.now upper.now }
     ensures leaves { Leaves result
-        (FullStep.rayStep segments indices.now x_free.now direction.now lower.now
+        (FullStep.ray_step segments indices.now x_free.now direction.now lower.now
         upper.now iterate) }
     ensures keeps { Keeps indices.now segments iterate result }
 {
@@ -160,11 +160,11 @@ pub fn toward(
         × AllCut counts.n segments
         × Consistent counts.n segments iterate
         × (counts.n ≤ length fixed.now)
-        × (indices.now ≡ freeIndices counts.n iterate.board.state)
+        × (indices.now ≡ free_indices counts.n iterate.board.state)
         × (solved ≤ length indices.now)
         × (length indices.now ≤ length step.now)
         × Ends counts.n segments iterate.board.state lower.now upper.now }
-    ensures result_value { passedOf counts.n counts.m result
+    ensures result_value { passed_of counts.n counts.m result
         ≡ FullStep.toward counts.originals counts.n counts.m q.now c.now e.now segments
         fixed.now magnitudes.q magnitudes.linear solved step.now (take counts.m multipliers) iterate }
     ensures consistent { Consistent counts.n segments result.iterate }
@@ -215,7 +215,7 @@ pub fn along(
     requires { (n ≤ Sizes.variables)
         × AllCut n segments
         × AllPlaced n segments iterate.board.state
-        × (indices.now ≡ freeIndices n iterate.board.state)
+        × (indices.now ≡ free_indices n iterate.board.state)
         × (length indices.now ≤ length direction.now)
         × Ends n segments iterate.board.state lower.now upper.now }
     ensures gives { Gives n result (FullStep.along n segments direction.now iterate) }

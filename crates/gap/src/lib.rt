@@ -2,11 +2,11 @@
 ghost use Rattle.std.specs.Prelude.{◌≡◌, ◌≤◌, length, ◌*ℤ◌};
 ghost use Rattle.ints.specs.Bound.{◌≼◌};
 ghost use Rattle.ints.specs.Diff.{minℤ, maxℤ};
-ghost use Rattle.block.specs.Gap.{coefOf, slopeOf, g, anchorPart, spanPart, line, candidates, least, wordGap, wordGaps, values, ends, gap};
-ghost use Rattle.block.specs.Ranges.{maxWords, Short, RangedWord, RangedTempo, Ranged, Timed};
-ghost use Rattle.format.specs.Structs.{Filled, Sound, list_of, word_of, tempoOf, block_of};
+ghost use Rattle.block.specs.Gap.{coef_of, slope_of, g, anchor_part, span_part, line, candidates, least, word_gap, word_gaps, values, ends, gap};
+ghost use Rattle.block.specs.Ranges.{max_words, Short, RangedWord, RangedTempo, Ranged, Timed};
+ghost use Rattle.format.specs.Structs.{Filled, Sound, list_of, word_of, tempo_of, block_of};
 ghost use Rattle.exact.specs.Planned.{Planned};
-ghost use Rattle.gap.specs.Prices.{anchorPrices, spanPrices, pricesWith, pricesFrom};
+ghost use Rattle.gap.specs.Prices.{anchor_prices, span_prices, prices_with, prices_from};
 ghost use Rattle.gap.specs.Input.{PriceList, GapInput, PlanAndPrices};
 ghost use Rattle.gap.specs.Words.{Within, Each, Added};
 
@@ -56,10 +56,10 @@ fn least(w: Word, h: i64, cap: u64) -> i64
 // Tempo t's part of each word's half slope, added to the word's sum.
 fn add_slopes(start: PerWord, t: Tempo, times: &[i32]) -> PerWord
     requires filled { Filled t.list }
-    requires ranged_tempo { RangedTempo (length times.now) (tempoOf t) }
+    requires ranged_tempo { RangedTempo (length times.now) (tempo_of t) }
     requires timed { Timed (length times.now) times.now }
-    requires times_len_bound { (length times.now ≤ maxWords) × Within (length times.now) start 2199023255552 }
-    ensures { Added (length times.now) start (slopeOf (tempoOf t) times.now) result }
+    requires times_len_bound { (length times.now ≤ max_words) × Within (length times.now) start 2199023255552 }
+    ensures { Added (length times.now) start (slope_of (tempo_of t) times.now) result }
 {
     let mut sums = start;
     let n = times.len();
@@ -88,8 +88,8 @@ fn half_slopes(b: Block, times: &[i32]) -> PerWord
 fn add_price(start: PerWord, p: i64, l: Pairs, n: usize) -> PerWord
     requires filled { Filled l }
     requires short { Short (list_of l) }
-    requires p { (p ≼ 4294967296) × (n ≤ maxWords) × Within n start 5497558138880 }
-    ensures { Added n start (λ i. p *ℤ coefOf i (list_of l)) result }
+    requires p { (p ≼ 4294967296) × (n ≤ max_words) × Within n start 5497558138880 }
+    ensures { Added n start (λ i. p *ℤ coef_of i (list_of l)) result }
 {
     let mut sums = start;
     for i in 0..n {
@@ -102,7 +102,7 @@ fn add_price(start: PerWord, p: i64, l: Pairs, n: usize) -> PerWord
 fn add_anchors(start: PerWord, b: Block, prices: &[i64]) -> PerWord
     requires price_list { PriceList b prices.now }
     requires within { Within b.words start 2199023255552 }
-    ensures { Added b.words start (anchorPart (block_of b) (anchorPrices (block_of b) prices.now)) result }
+    ensures { Added b.words start (anchor_part (block_of b) (anchor_prices (block_of b) prices.now)) result }
 {
     let mut sums = start;
     let words = b.words;
@@ -120,7 +120,7 @@ fn add_anchors(start: PerWord, b: Block, prices: &[i64]) -> PerWord
 fn add_spans(start: PerWord, b: Block, prices: &[i64]) -> PerWord
     requires price_list { PriceList b prices.now }
     requires within { Within b.words start 3298534883328 }
-    ensures { Added b.words start (spanPart (block_of b) (spanPrices (block_of b) prices.now)) result }
+    ensures { Added b.words start (span_part (block_of b) (span_prices (block_of b) prices.now)) result }
 {
     let mut sums = start;
     let words = b.words;
@@ -139,7 +139,7 @@ fn add_spans(start: PerWord, b: Block, prices: &[i64]) -> PerWord
 fn word_gap(w: Word, g: i64, h: i64, cap: u64, x: i64) -> i64
     requires ranged_word { RangedWord (word_of w) }
     requires g { (g ≼ 2199023255552) × (h ≼ 5497558138880) × (cap ≤ 4294967296) × (x ≼ 262144) }
-    ensures { result ≡ wordGap (word_of w) g h cap x }
+    ensures { result ≡ word_gap (word_of w) g h cap x }
 {
     g * x + bend(w, x) - least(w, h, cap)
 }
@@ -147,7 +147,7 @@ fn word_gap(w: Word, g: i64, h: i64, cap: u64, x: i64) -> i64
 // The words' parts, added up. Half slopes and h's are made for all words at once: no call for one word takes the block.
 fn word_gaps(b: Block, times: &[i32], prices: &[i64], cap: u64) -> i64
     requires { GapInput b times.now prices.now cap }
-    ensures { result ≡ wordGaps (block_of b) times.now (pricesWith (block_of b) prices.now cap) }
+    ensures { result ≡ word_gaps (block_of b) times.now (prices_with (block_of b) prices.now cap) }
 {
     let g = half_slopes(b, times);
     let h = add_spans(add_anchors(g, b, prices), b, prices);
@@ -163,7 +163,7 @@ fn word_gaps(b: Block, times: &[i32], prices: &[i64], cap: u64) -> i64
 // Each anchor price × value, added up.
 fn values(b: Block, prices: &[i64]) -> i64
     requires { PriceList b prices.now }
-    ensures { result ≡ values (block_of b) (anchorPrices (block_of b) prices.now) }
+    ensures { result ≡ values (block_of b) (anchor_prices (block_of b) prices.now) }
 {
     let mut sum: i64 = 0;
     let n = b.anchors;
@@ -185,7 +185,7 @@ fn end_of(p: i64, s: Span) -> i64
 // The same for each span, added up.
 fn ends(b: Block, prices: &[i64]) -> i64
     requires { PriceList b prices.now }
-    ensures { result ≡ ends (block_of b) (spanPrices (block_of b) prices.now) }
+    ensures { result ≡ ends (block_of b) (span_prices (block_of b) prices.now) }
 {
     let mut sum: i64 = 0;
     let a = b.anchors;
@@ -200,7 +200,7 @@ fn ends(b: Block, prices: &[i64]) -> i64
 // The gap of the plan `times`, the prices of the anchors and spans, and the cap's.
 fn gap(b: Block, times: &[i32], prices: &[i64], cap: u64) -> i64
     requires { GapInput b times.now prices.now cap }
-    ensures { result ≡ gap (block_of b) times.now (pricesWith (block_of b) prices.now cap) }
+    ensures { result ≡ gap (block_of b) times.now (prices_with (block_of b) prices.now cap) }
 {
     let c = (cap as i64) * (b.cap as i64);
     2 * word_gaps(b, times, prices, cap) + 2 * values(b, prices) + 2 * ends(b, prices) + 2 * c
@@ -211,7 +211,7 @@ pub fn gap_of(b: Block, times: &[i32], prices: &[i64]) -> i64
     requires sound { Sound b }
     requires ranged { Ranged (block_of b) }
     requires plan_and_prices { PlanAndPrices (block_of b) times.now prices.now }
-    ensures { result ≡ gap (block_of b) times.now (pricesFrom (block_of b) prices.now) }
+    ensures { result ≡ gap (block_of b) times.now (prices_from (block_of b) prices.now) }
 {
     let n = b.anchors + b.spans;
     let cap = prices[n] as u64;

@@ -2,31 +2,31 @@
 use Rattle.std.specs.Prelude.{◌≡◌, true, false, List, ℕ, ◌<◌, ◌≤◌, length, Float}
 use Rattle.std.proofs.Common.{◌∙◌}
 use Rattle.folds.specs.Fold.{out, pick}
-use Rattle.folds.specs.Tab.{over-in, over-past, length_over}
+use Rattle.folds.specs.Tab.{over_in, over_past, length-over}
 use Rattle.arith.specs.Float.{fsub, fmul, at}
-use Rattle.vector.specs.Vector.{subScaled}
-use Rattle.vector.specs.Laws.{length-subScaled, subScaled-at}
-use Rattle.householder.specs.Householder.{factor, reflect, reflector, zeroColumn}
+use Rattle.vector.specs.Vector.{sub_scaled}
+use Rattle.vector.specs.Laws.{length-sub_scaled, sub_scaled-at}
+use Rattle.householder.specs.Householder.{factor, reflect, reflector, zero_column}
 
 module _ (v y : List Float) where
   abbrev rows : List Float
-  rows = subScaled (length v) y v (factor v y)
+  rows = sub_scaled (length v) y v (factor v y)
 
   pub length-reflect : length v ≤ length y → length (reflect v y) ≡ length y
   unfolding reflect
-  length-reflect h = length_over rows y (rw (length-subScaled (length v) y v (factor v y)) h)
+  length-reflect h = length-over rows y (rw (length-sub_scaled (length v) y v (factor v y)) h)
 
   -- an entry in v's rows, and one past them
   pub reflect-at : (i : ℕ) → i < length v → at (reflect v y) i ≡ fsub (at y i) (fmul (at v i) (factor v y))
   unfolding reflect
   reflect-at i h =
-      over-in _ rows y i (rw (length-subScaled (length v) y v (factor v y)) h) ∙ subScaled-at (length v) i h y v (factor v y)
+      over_in _ rows y i (rw (length-sub_scaled (length v) y v (factor v y)) h) ∙ sub_scaled-at (length v) i h y v (factor v y)
 
-  pub reflect-past : (i : ℕ) → length v ≤ i → at (reflect v y) i ≡ at y i
+  pub reflect_past : (i : ℕ) → length v ≤ i → at (reflect v y) i ≡ at y i
   unfolding reflect
-  reflect-past i h = over-past _ rows y i (rw (length-subScaled (length v) y v (factor v y)) h)
+  reflect_past i h = over_past _ rows y i (rw (length-sub_scaled (length v) y v (factor v y)) h)
 
 -- 'a zero column makes no reflection'
-pub zero-none : (h : ℕ) (x : List Float) → zeroColumn h x ≡ true → reflector h x ≡ out false x
+pub zero-none : (h : ℕ) (x : List Float) → zero_column h x ≡ true → reflector h x ≡ out false x
 unfolding reflector pick
 zero-none h x e = rw e

@@ -2,12 +2,12 @@
 ghost use Rattle.std.specs.Prelude.{◌≡◌, ◌≤◌, ◌<◌, ◌*◌, ◌+◌, ◌-◌, length};
 ghost use Rattle.folds.specs.Fold.{out};
 ghost use Rattle.folds.specs.Part.{two};
-ghost use Rattle.reductions.specs.Reductions.{dot as dotOf};
+ghost use Rattle.reductions.specs.Reductions.{dot as dot_of};
 ghost use Rattle.householder.specs.Householder as Householder;
 
 // The rows of y that v has, reflected; w is v times v.
 fn reflect(v: &[f64], w: f64, y: &mut [f64])
-    requires { (length v.now ≤ length y.old) × (w ≡ dotOf (length v.now) v.now v.now) }
+    requires { (length v.now ≤ length y.old) × (w ≡ dot_of (length v.now) v.now v.now) }
     ensures { y.new ≡ Householder.reflect v.now y.old }
 {
     let h = v.len();
@@ -18,7 +18,7 @@ fn reflect(v: &[f64], w: f64, y: &mut [f64])
 // The columns lo to m - 1 of a, in the rows from k on.
 fn reflect_columns(v: &[f64], a: &mut [f64], n: usize, m: usize, k: usize, lo: usize)
     requires { (n * m ≤ length a.old) × (k + length v.now ≡ n) × (lo ≤ m) }
-    ensures { a.new ≡ Householder.reflectColumns n k lo m v.now a.old }
+    ensures { a.new ≡ Householder.reflect_columns n k lo m v.now a.old }
 {
     let w = reductions::dot(v, v, v.len());
     for j in lo..m {
@@ -30,7 +30,7 @@ fn reflect_columns(v: &[f64], a: &mut [f64], n: usize, m: usize, k: usize, lo: u
 
 fn zero_column(x: &[f64], h: usize) -> bool
     requires { h ≤ length x.now }
-    ensures { result ≡ Householder.zeroColumn h x.now }
+    ensures { result ≡ Householder.zero_column h x.now }
 {
     for i in 0..h {
         if x[i] != 0.0 {
@@ -62,7 +62,7 @@ fn reflector(x: &mut [f64], h: usize) -> bool
 // The columns past k, reflected by the vector that stands in column k; v is room for it.
 fn reflect_in(a: &mut [f64], n: usize, m: usize, k: usize, v: &mut [f64])
     requires { (n * m ≤ length a.old) × (k < n) × (k < m) × (k + length v.old ≡ n) }
-    ensures { a.new ≡ Householder.reflectRest n m k a.old }
+    ensures { a.new ≡ Householder.reflect_rest n m k a.old }
 {
     let b = k + k * n;
     let e = n + k * n;
@@ -72,7 +72,7 @@ fn reflect_in(a: &mut [f64], n: usize, m: usize, k: usize, v: &mut [f64])
 
 fn reflect_rest(a: &mut [f64], n: usize, m: usize, k: usize)
     requires { (n * m ≤ length a.old) × (k < n) × (k < m) × (n ≤ 48) }
-    ensures { a.new ≡ Householder.reflectRest n m k a.old }
+    ensures { a.new ≡ Householder.reflect_rest n m k a.old }
 {
     let mut v = [0.0; 48];
     let h = n - k;
@@ -82,7 +82,7 @@ fn reflect_rest(a: &mut [f64], n: usize, m: usize, k: usize)
 // Column k becomes its reflection vector, and the columns past it are reflected; false for a zero column.
 fn qr_column(a: &mut [f64], n: usize, m: usize, k: usize) -> bool
     requires { (n * m ≤ length a.old) × (k < n) × (k < m) × (n ≤ 48) }
-    ensures { out result a.new ≡ Householder.qrColumn n m k a.old }
+    ensures { out result a.new ≡ Householder.qr_column n m k a.old }
 {
     let b = k + k * n;
     let e = n + k * n;
@@ -105,7 +105,7 @@ pub fn qr(a: &mut [f64], n: usize, m: usize, made: &mut [bool])
 
 fn q_tr_step(a: &[f64], n: usize, m: usize, made: &[bool], b: &mut [f64], p: usize, k: usize)
     requires { (n * m ≤ length a.now) × (k < m) × (m ≤ n) × (m ≤ length made.now) × (n * p ≤ length b.old) }
-    ensures { b.new ≡ Householder.qTrStep n a.now made.now p k b.old }
+    ensures { b.new ≡ Householder.q_tr_step n a.now made.now p k b.old }
 {
     if made[k] {
         let s = k + k * n;
@@ -117,7 +117,7 @@ fn q_tr_step(a: &[f64], n: usize, m: usize, made: &[bool], b: &mut [f64], p: usi
 // The p columns of b, reflected by the m columns that `qr` left in a.
 pub fn q_tr_mul(a: &[f64], n: usize, m: usize, made: &[bool], b: &mut [f64], p: usize)
     requires { (n * m ≤ length a.now) × (m ≤ n) × (m ≤ length made.now) × (n * p ≤ length b.old) }
-    ensures { b.new ≡ Householder.qTrMul n m a.now made.now p b.old }
+    ensures { b.new ≡ Householder.q_tr_mul n m a.now made.now p b.old }
 {
     for k in 0..m {
         q_tr_step(a, n, m, made, b, p, k);

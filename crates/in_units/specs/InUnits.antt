@@ -6,11 +6,11 @@ use Rattle.reductions.specs.Reductions.{amax}
 use Rattle.vector.specs.Vector.{filled}
 use Rattle.segments.specs.declared.Segments.{Segments}
 use Rattle.iterate.specs.Problem.{Problem, problem}
-use Rattle.starting.specs.Starting.{allFixed, slopeAmax, started}
+use Rattle.starting.specs.Starting.{all_fixed, slope_amax, started}
 use Rattle.minimum.specs.Minimized.{Minimized}
 use Rattle.active.specs.Active.{passes}
 
-unfoldable pub solvePiecewiseInUnits : Problem → (segments : List Segments) (start : List Float) → Minimized
-solvePiecewiseInUnits (problem originals n m q c e b) segments start =
-    passes (problem originals n m q c e b) segments (allFixed n segments) (amax (n * n) q) (max (amax n c) (slopeAmax n segments))
+unfoldable pub solve_piecewise_in_units : Problem → (segments : List Segments) (start : List Float) → Minimized
+solve_piecewise_in_units (problem originals n m q c e b) segments start =
+    passes (problem originals n m q c e b) segments (all_fixed n segments) (amax (n * n) q) (max (amax n c) (slope_amax n segments))
     (started n segments start) (filled (originals * originals) f0)

@@ -6,7 +6,7 @@ ghost use Rattle.arith.specs.Float.{f0};
 ghost use Rattle.vector.specs.Vector.{filled};
 ghost use Rattle.segments.specs.Segments.{AllCut};
 ghost use Rattle.iterate.specs.Problem.{problem, Shaped, Room};
-ghost use Rattle.minimum.specs.Minimized.{minimizedOf};
+ghost use Rattle.minimum.specs.Minimized.{minimized_of};
 ghost use Rattle.in_units.specs.InUnits as Definition;
 
 use iterate::Counts;
@@ -43,8 +43,8 @@ fn solve_piecewise_in_units(
         × (counts.n ≤ length start.now)
         × Room counts.originals counts.n counts.m room.old q_free.old e_free.old gram.old
         × (l.old ≡ filled (counts.originals * counts.originals) f0) }
-    ensures { minimizedOf counts.n counts.m result
-        ≡ Definition.solvePiecewiseInUnits
+    ensures { minimized_of counts.n counts.m result
+        ≡ Definition.solve_piecewise_in_units
         (problem counts.originals counts.n counts.m q.now c.now e.now b.now)
         segments start.now }
 {
@@ -88,8 +88,8 @@ fn engine_small(
         × (m ≤ Sizes.equalities)
         × (r ≤ Sizes.few)
         × (n ≤ Sizes.few) }
-    ensures { minimizedOf (n + r) (m + r) result
-        ≡ Definition.solvePiecewiseInUnits (problem n (n + r) (m + r) q.now c.now e.now b.now) segments
+    ensures { minimized_of (n + r) (m + r) result
+        ≡ Definition.solve_piecewise_in_units (problem n (n + r) (m + r) q.now c.now e.now b.now) segments
         start.now }
 {
     let mut room = [0.0; SMALL_ROWS];
@@ -135,8 +135,8 @@ fn engine_large(
         × (n + r ≤ length start.now)
         × (m ≤ Sizes.equalities)
         × (r ≤ Sizes.rows) }
-    ensures { minimizedOf (n + r) (m + r) result
-        ≡ Definition.solvePiecewiseInUnits (problem n (n + r) (m + r) q.now c.now e.now b.now) segments
+    ensures { minimized_of (n + r) (m + r) result
+        ≡ Definition.solve_piecewise_in_units (problem n (n + r) (m + r) q.now c.now e.now b.now) segments
         start.now }
 {
     let mut room = [0.0; ROWS];
@@ -183,8 +183,8 @@ pub fn engine_sized(
         × (n + r ≤ length start.now)
         × (m ≤ Sizes.equalities)
         × (r ≤ Sizes.rows) }
-    ensures { minimizedOf (n + r) (m + r) result
-        ≡ Definition.solvePiecewiseInUnits (problem n (n + r) (m + r) q.now c.now e.now b.now) segments
+    ensures { minimized_of (n + r) (m + r) result
+        ≡ Definition.solve_piecewise_in_units (problem n (n + r) (m + r) q.now c.now e.now b.now) segments
         start.now }
 {
     if n <= sizes::FEW {

@@ -13,7 +13,7 @@ infix 5 ◌≼◌
 pub record ◌≼◌ (z : ℤ) (n : ℕ) : Type 0 where
   pub size : nat_abs z ≤ n
 
-infixl 6 ◌+b◌ ◌-b◌
+infixl 6 ◌+b◌ ◌_b◌
 infixl 7 ◌*b◌
 plus : (x y : ℤ) → nat_abs (x +ℤ y) ≤ nat_abs x + nat_abs y
 plus = split _ λ a b. split _ λ c d. simp diff (omega arith)
@@ -34,18 +34,18 @@ times (negsuc a) (negsuc b) = refl
 pub ◌+b◌ : {x y : ℤ} {a b : ℕ} → x ≼ a → y ≼ b → (x +ℤ y) ≼ (a + b)
 ◌+b◌ {x} {y} p q = record { size = omega (arith, plus x y, p.size, q.size) }
 
-pub ◌-b◌ : {x y : ℤ} {a b : ℕ} → x ≼ a → y ≼ b → (x -ℤ y) ≼ (a + b)
-◌-b◌ {x} {y} p q = record { size = omega (arith, minus x y, p.size, q.size) }
+pub ◌_b◌ : {x y : ℤ} {a b : ℕ} → x ≼ a → y ≼ b → (x -ℤ y) ≼ (a + b)
+◌_b◌ {x} {y} p q = record { size = omega (arith, minus x y, p.size, q.size) }
 
 pub ◌*b◌ : {x y : ℤ} {a b : ℕ} → x ≼ a → y ≼ b → (x *ℤ y) ≼ (a * b)
 ◌*b◌ {x} {y} p q = record { size = le_trans (le_of_eq (times x y)) (mul-le-mul p.size q.size) }
 
 -- a number that is written out; a natural number; a looser bound
-pub lit-b : (z : ℤ) → z ≼ nat_abs z
-lit-b z = record { size = le_refl (nat_abs z) }
+pub lit_b : (z : ℤ) → z ≼ nat_abs z
+lit_b z = record { size = le_refl (nat_abs z) }
 
-pub pos-b : {n a : ℕ} → n ≤ a → pos n ≼ a
-pos-b h = record { size = h }
+pub pos_b : {n a : ℕ} → n ≤ a → pos n ≼ a
+pos_b h = record { size = h }
 
 pub loose : {z : ℤ} {a b : ℕ} → a ≤ b → z ≼ a → z ≼ b
 loose h p = record { size = le_trans p.size h }
@@ -58,10 +58,10 @@ same-b {a = a} e p = subst (λ z. z ≼ a) e p
 pub Σ-b : (n : ℕ) {a : ℕ} (f : ℕ → ℤ) → ((i : ℕ) → i < n → f i ≼ a) → Σ n f ≼ n * a
 unfolding Σ fold
 Σ-b zero f h = record { size = zero-le }
-Σ-b (suc n) {a} f h = loose (le_of_eq (add_comm (n * a) a ∙ sym (suc-mul' n a))) (Σ-b n f (λ i b. h i (omega arith)) +b h n (omega arith))
+Σ-b (suc n) {a} f h = loose (le_of_eq (add_comm (n * a) a ∙ sym (suc_mul' n a))) (Σ-b n f (λ i b. h i (omega arith)) +b h n (omega arith))
   where
-    suc-mul' : (n a : ℕ) → suc n * a ≡ a + n * a
-    suc-mul' n a = omega arith
+    suc_mul' : (n a : ℕ) → suc n * a ≡ a + n * a
+    suc_mul' n a = omega arith
 
 pub delta-b : (j i : ℕ) {c : ℤ} {a : ℕ} → c ≼ a → delta j i c ≼ a
 delta-b j i {c} {a} p = go (eqb j i)
@@ -86,10 +86,10 @@ max-b {x} {y} {a} p q = go (le_z x y)
     go true = q
     go false = p
 
-pub mag-le : (z : ℤ) → mag z ≤ nat_abs z
-mag-le (pos n) = le_refl n
-mag-le (negsuc n) = omega arith
+pub mag_le : (z : ℤ) → mag z ≤ nat_abs z
+mag_le (pos n) = le_refl n
+mag_le (negsuc n) = omega arith
 
 -- it fits the width
 pub sfits : {w : Width} {z : ℤ} {a : ℕ} → z ≼ a → T (ltb a (2 ^ hbits w)) → SFits w z
-sfits {w} {z} {a} p t = record { sfits = lt_of_le_of_lt (le_trans (mag-le z) p.size) (ltb→lt a (2 ^ hbits w) t) }
+sfits {w} {z} {a} p t = record { sfits = lt_of_le_of_lt (le_trans (mag_le z) p.size) (ltb→lt a (2 ^ hbits w) t) }

@@ -5,7 +5,7 @@ use Rattle.std.proofs.Math.IntN.{+ℤ_idl, +ℤ_idr, zero-*ℤ, *ℤ-zero, *ℤ_
 use Rattle.std.specs.Int.Signed.{≤ℤ_refl}
 use Rattle.folds.specs.Fold.{fold}
 use Rattle.ints.specs.Diff.{diff, split}
-use Rattle.ints.specs.Order.{≤-plus}
+use Rattle.ints.specs.Order.{≤_plus}
 
 unfoldable pub Σ : (n : ℕ) (f : ℕ → ℤ) → ℤ
 Σ n f = fold n (λ i s. s +ℤ f i) (pos 0)
@@ -23,15 +23,15 @@ pub Σ-next : (n : ℕ) (f : ℕ → ℤ) → Σ (n + 1) f ≡ Σ n f +ℤ f n
 unfolding Σ fold
 Σ-next n f = rw add-one
 
-pub Σ-ext : (n : ℕ) (f g : ℕ → ℤ) → ((i : ℕ) → i < n → f i ≡ g i) → Σ n f ≡ Σ n g
+pub Σ_ext : (n : ℕ) (f g : ℕ → ℤ) → ((i : ℕ) → i < n → f i ≡ g i) → Σ n f ≡ Σ n g
 unfolding Σ fold
-Σ-ext zero f g h = refl
-Σ-ext (suc n) f g h = ap₂ ◌+ℤ◌ (Σ-ext n f g (λ i b. h i (omega arith))) (h n (omega arith))
+Σ_ext zero f g h = refl
+Σ_ext (suc n) f g h = ap₂ ◌+ℤ◌ (Σ_ext n f g (λ i b. h i (omega arith))) (h n (omega arith))
 
 pub Σ-le : (n : ℕ) (f g : ℕ → ℤ) → ((i : ℕ) → i < n → f i ≤ℤ g i) → Σ n f ≤ℤ Σ n g
 unfolding Σ fold
 Σ-le zero f g h = ≤ℤ_refl (pos 0)
-Σ-le (suc n) f g h = ≤-plus (Σ-le n f g (λ i b. h i (omega arith))) (h n (omega arith))
+Σ-le (suc n) f g h = ≤_plus (Σ-le n f g (λ i b. h i (omega arith))) (h n (omega arith))
 
 four : (a b c d : ℤ) → (a +ℤ b) +ℤ (c +ℤ d) ≡ (a +ℤ c) +ℤ (b +ℤ d)
 four = split _ λ a b. split _ λ c d. split _ λ e f. split _ λ g h. simp diff (omega arith)
@@ -57,8 +57,8 @@ unfolding Σ fold
 Σ-times k zero f = sym (*ℤ-zero k)
 Σ-times k (suc n) f = ap (λ z. z +ℤ k *ℤ f n) (Σ-times k n f) ∙ dist k (Σ n f) (f n)
 
-pub Σ-by : (n : ℕ) (f : ℕ → ℤ) (k : ℤ) → Σ n (λ i. f i *ℤ k) ≡ Σ n f *ℤ k
-Σ-by n f k = Σ-ext n (λ i. f i *ℤ k) (λ i. k *ℤ f i) (λ i b. *ℤ_comm (f i) k) ∙ Σ-times k n f ∙ *ℤ_comm k (Σ n f)
+pub Σ_by : (n : ℕ) (f : ℕ → ℤ) (k : ℤ) → Σ n (λ i. f i *ℤ k) ≡ Σ n f *ℤ k
+Σ_by n f k = Σ_ext n (λ i. f i *ℤ k) (λ i. k *ℤ f i) (λ i b. *ℤ_comm (f i) k) ∙ Σ-times k n f ∙ *ℤ_comm k (Σ n f)
 
 pub Σ-zero : (n : ℕ) → Σ n (λ i. pos 0) ≡ pos 0
 unfolding Σ fold
@@ -79,10 +79,10 @@ unfolding Σ fold
     plus_assoc = split _ λ a b. split _ λ c d. split _ λ e f. simp diff (omega arith)
 
 -- the sums of a table, by its columns or by its rows
-pub Σ-swap : (n m : ℕ) (f : ℕ → ℕ → ℤ) → Σ n (λ i. Σ m (λ j. f i j)) ≡ Σ m (λ j. Σ n (λ i. f i j))
+pub Σ_swap : (n m : ℕ) (f : ℕ → ℕ → ℤ) → Σ n (λ i. Σ m (λ j. f i j)) ≡ Σ m (λ j. Σ n (λ i. f i j))
 unfolding Σ fold
-Σ-swap zero m f = sym (Σ-zero m)
-Σ-swap (suc n) m f = ap (λ z. z +ℤ Σ m (λ j. f n j)) (Σ-swap n m f) ∙ sym (Σ-plus m (λ j. Σ n (λ i. f i j)) (λ j. f n j))
+Σ_swap zero m f = sym (Σ-zero m)
+Σ_swap (suc n) m f = ap (λ z. z +ℤ Σ m (λ j. f n j)) (Σ_swap n m f) ∙ sym (Σ-plus m (λ j. Σ n (λ i. f i j)) (λ j. f n j))
 
 -- Kronecker's delta, times c: c where j is i, 0 elsewhere; summed over i it is the c of j
 abbrev pub delta : (j i : ℕ) (c : ℤ) → ℤ
@@ -91,8 +91,8 @@ delta j i c = cond (eqb j i) c (pos 0)
 pub delta-same : (j i : ℕ) (c : ℤ) → j ≡ i → delta j i c ≡ c
 delta-same j i c e = rw (eq-eqb j i e)
 
-pub delta-other : (j i : ℕ) (c : ℤ) → (j ≡ i → ⊥) → delta j i c ≡ pos 0
-delta-other j i c h = rw (ne_eqb j i h)
+pub delta_other : (j i : ℕ) (c : ℤ) → (j ≡ i → ⊥) → delta j i c ≡ pos 0
+delta_other j i c h = rw (ne_eqb j i h)
 
 pub Σ-delta : (n j : ℕ) (f : ℕ → ℤ) → j < n → Σ n (λ i. delta j i (f i)) ≡ f j
 unfolding Σ fold
@@ -100,11 +100,11 @@ unfolding Σ fold
 Σ-delta (suc n) j f h = go (eq-or-lt_of_le (le_of_suc-le-suc h)) (Σ-delta n j f)
   where
     none : j ≡ n → Σ n (λ i. delta j i (f i)) ≡ pos 0
-    none e = Σ-ext n (λ i. delta j i (f i)) (λ i. pos 0) (λ i b. delta-other j i (f i) (λ q. omega arith)) ∙ Σ-zero n
+    none e = Σ_ext n (λ i. delta j i (f i)) (λ i. pos 0) (λ i b. delta_other j i (f i) (λ q. omega arith)) ∙ Σ-zero n
 
     go : (j ≡ n) ⊎ (j < n) → (j < n → Σ n (λ i. delta j i (f i)) ≡ f j) → Σ n (λ i. delta j i (f i)) +ℤ delta j n (f n) ≡ f j
     go (inl e) ih = ap₂ ◌+ℤ◌ (none e) (subst (λ (m : ℕ). delta j m (f m) ≡ f j) e (delta-same j j (f j) refl)) ∙ +ℤ_idl (f j)
-    go (inr l) ih = ap₂ ◌+ℤ◌ (ih l) (delta-other j n (f n) (λ q. omega arith)) ∙ +ℤ_idr (f j)
+    go (inr l) ih = ap₂ ◌+ℤ◌ (ih l) (delta_other j n (f n) (λ q. omega arith)) ∙ +ℤ_idr (f j)
 
 pub delta-times : (j i : ℕ) (c z : ℤ) → delta j i c *ℤ z ≡ delta j i (c *ℤ z)
 delta-times j i c z = go (eqb j i)

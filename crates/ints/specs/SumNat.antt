@@ -18,10 +18,10 @@ unfolding Σℕ fold
 Σℕ-le zero a b h = zero-le
 Σℕ-le (suc n) a b h = omega (arith, Σℕ-le n a b (λ i l. h i (omega arith)), h n (omega arith))
 
-pub Σℕ-ext : (n : ℕ) (a b : ℕ → ℕ) → ((i : ℕ) → i < n → a i ≡ b i) → Σℕ n a ≡ Σℕ n b
+pub Σℕ_ext : (n : ℕ) (a b : ℕ → ℕ) → ((i : ℕ) → i < n → a i ≡ b i) → Σℕ n a ≡ Σℕ n b
 unfolding Σℕ fold
-Σℕ-ext zero a b h = refl
-Σℕ-ext (suc n) a b h = ap₂ ◌+◌ (Σℕ-ext n a b (λ i l. h i (omega arith))) (h n (omega arith))
+Σℕ_ext zero a b h = refl
+Σℕ_ext (suc n) a b h = ap₂ ◌+◌ (Σℕ_ext n a b (λ i l. h i (omega arith))) (h n (omega arith))
 
 -- fewer terms
 pub Σℕ-part : (k n : ℕ) (a : ℕ → ℕ) → k ≤ n → Σℕ k a ≤ Σℕ n a
@@ -38,9 +38,9 @@ unfolding Σℕ fold
     go (inr l) ih = omega (arith, ih (le_of_suc-le-suc l))
 
 -- one term
-pub Σℕ-term : (n i : ℕ) (a : ℕ → ℕ) → i < n → a i ≤ Σℕ n a
+pub Σℕ_term : (n i : ℕ) (a : ℕ → ℕ) → i < n → a i ≤ Σℕ n a
 unfolding Σℕ fold
-Σℕ-term n i a h = omega (arith, Σℕ-part (suc i) n a h)
+Σℕ_term n i a h = omega (arith, Σℕ-part (suc i) n a h)
 
 pub Σℕ-plus : (n : ℕ) (a b : ℕ → ℕ) → Σℕ n (λ i. a i + b i) ≡ Σℕ n a + Σℕ n b
 unfolding Σℕ fold
@@ -52,23 +52,23 @@ unfolding Σℕ fold
 Σℕ-times k zero a = omega arith
 Σℕ-times k (suc n) a = omega (arith, Σℕ-times k n a)
 
-pub Σℕ-by : (n : ℕ) (a : ℕ → ℕ) (k : ℕ) → Σℕ n (λ i. a i * k) ≡ Σℕ n a * k
+pub Σℕ_by : (n : ℕ) (a : ℕ → ℕ) (k : ℕ) → Σℕ n (λ i. a i * k) ≡ Σℕ n a * k
 unfolding Σℕ fold
-Σℕ-by zero a k = omega arith
-Σℕ-by (suc n) a k = omega (arith, Σℕ-by n a k)
+Σℕ_by zero a k = omega arith
+Σℕ_by (suc n) a k = omega (arith, Σℕ_by n a k)
 
-pub Σℕ-const : (n c : ℕ) → Σℕ n (λ i. c) ≡ n * c
+pub Σℕ_const : (n c : ℕ) → Σℕ n (λ i. c) ≡ n * c
 unfolding Σℕ fold
-Σℕ-const zero c = omega arith
-Σℕ-const (suc n) c = omega (arith, Σℕ-const n c)
+Σℕ_const zero c = omega arith
+Σℕ_const (suc n) c = omega (arith, Σℕ_const n c)
 
-pub Σℕ-swap : (n m : ℕ) (a : ℕ → ℕ → ℕ) → Σℕ n (λ i. Σℕ m (λ j. a i j)) ≡ Σℕ m (λ j. Σℕ n (λ i. a i j))
+pub Σℕ_swap : (n m : ℕ) (a : ℕ → ℕ → ℕ) → Σℕ n (λ i. Σℕ m (λ j. a i j)) ≡ Σℕ m (λ j. Σℕ n (λ i. a i j))
 unfolding Σℕ fold
-Σℕ-swap zero m a = sym (Σℕ-const m 0 ∙ mul-nothing m)
+Σℕ_swap zero m a = sym (Σℕ_const m 0 ∙ mul-nothing m)
   where
     mul-nothing : (m : ℕ) → m * 0 ≡ 0
     mul-nothing m = omega arith
-Σℕ-swap (suc n) m a = ap (λ (z : ℕ). z + Σℕ m (λ j. a n j)) (Σℕ-swap n m a) ∙ sym (Σℕ-plus m (λ j. Σℕ n (λ i. a i j)) (λ j. a n j))
+Σℕ_swap (suc n) m a = ap (λ (z : ℕ). z + Σℕ m (λ j. a n j)) (Σℕ_swap n m a) ∙ sym (Σℕ-plus m (λ j. Σℕ n (λ i. a i j)) (λ j. a n j))
 
 abbrev pub deltaℕ : (j i c : ℕ) → ℕ
 deltaℕ j i c = cond (eqb j i) c 0
@@ -94,7 +94,7 @@ unfolding Σℕ fold
     cases false = zero-le
 
     none : n ≤ j → Σℕ n (λ i. deltaℕ j i c) ≡ 0
-    none h = Σℕ-ext n (λ i. deltaℕ j i c) (λ i. 0) (λ i b. other j i c (λ q. omega arith)) ∙ Σℕ-const n 0 ∙ nothing n
+    none h = Σℕ_ext n (λ i. deltaℕ j i c) (λ i. 0) (λ i b. other j i c (λ q. omega arith)) ∙ Σℕ_const n 0 ∙ nothing n
       where
         nothing : (m : ℕ) → m * 0 ≡ 0
         nothing m = omega arith

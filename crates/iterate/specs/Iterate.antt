@@ -11,33 +11,33 @@ use Rattle.iterate.specs.declared.Ending.TheVariants.{More, Optimal, NonFiniteCo
 use Rattle.iterate.specs.declared.Passed.{Passed}
 
 -- another point with its active set
-unfoldable pub withBoard : Iterate → Board → Released → Iterate
-withBoard i board released = record { board = board; released = released; freed = i.freed; freed_at = i.freed_at }
+unfoldable pub with_board : Iterate → Board → Released → Iterate
+with_board i board released = record { board = board; released = released; freed = i.freed; freed_at = i.freed_at }
 
 -- `Ok(x)` with the multipliers, and what is refused
 pub data Result : Type 0 where
   optimal : (x multipliers : List Float) → Result
-  nonFinite : Result
+  non_finite : Result
   singular : Result
   unbounded : Result
-  notConverged : Result
+  not_converged : Result
 
 -- `continue`, `return Ok(x)`, `return Err(..)`
 unfoldable pub passed : Ending → Iterate → (x multipliers : List Float) → Pass Iterate Result
 passed More i x multipliers = more i
 passed Optimal i x multipliers = done (optimal x multipliers)
-passed NonFiniteCovariance i x multipliers = done nonFinite
+passed NonFiniteCovariance i x multipliers = done non_finite
 passed SingularCovariance i x multipliers = done singular
 passed Unbounded i x multipliers = done unbounded
-passed NotConverged i x multipliers = done notConverged
+passed NotConverged i x multipliers = done not_converged
 
 -- of what the code leaves, with n variables and m columns
-unfoldable pub passedOf : (n m : ℕ) → Passed → Pass Iterate Result
-passedOf n m r = passed r.ending r.iterate (take n r.iterate.board.x) (take m r.multipliers)
+unfoldable pub passed_of : (n m : ℕ) → Passed → Pass Iterate Result
+passed_of n m r = passed r.ending r.iterate (take n r.iterate.board.x) (take m r.multipliers)
 
 -- what the code leaves, whatever the number of columns
 abbrev pub Gives : (n : ℕ) (r : Passed) → Pass Iterate Result → Type 0
-Gives n r p = (m : ℕ) → passedOf n m r ≡ p
+Gives n r p = (m : ℕ) → passed_of n m r ≡ p
 
 -- and of variables
 abbrev pub Leaves : (r : Passed) → Pass Iterate Result → Type 0

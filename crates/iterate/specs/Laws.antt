@@ -10,44 +10,44 @@ use Rattle.blocking.specs.declared.Board.{Board}
 use Rattle.iterate.specs.declared.Iterate.{Iterate}
 use Rattle.iterate.specs.declared.Ending.TheVariants.{More, Optimal, NonFiniteCovariance, SingularCovariance, Unbounded, NotConverged}
 use Rattle.iterate.specs.declared.Passed.{Passed}
-use Rattle.iterate.specs.Iterate.{withBoard, optimal, nonFinite, singular, unbounded, notConverged, passed, passedOf, Consistent}
+use Rattle.iterate.specs.Iterate.{with_board, optimal, non_finite, singular, unbounded, not_converged, passed, passed_of, Consistent}
 
 module _ (n m : ℕ) (r : Passed) where
-  pub passed-more : r.ending ≡ More → passedOf n m r ≡ more r.iterate
-  unfolding passedOf passed
+  pub passed-more : r.ending ≡ More → passed_of n m r ≡ more r.iterate
+  unfolding passed_of passed
   passed-more e = rw e
 
-  pub passed-optimal : r.ending ≡ Optimal → passedOf n m r ≡ done (optimal (take n r.iterate.board.x) (take m r.multipliers))
-  unfolding passedOf passed
+  pub passed-optimal : r.ending ≡ Optimal → passed_of n m r ≡ done (optimal (take n r.iterate.board.x) (take m r.multipliers))
+  unfolding passed_of passed
   passed-optimal e = rw e
 
-  pub passed-nonFinite : r.ending ≡ NonFiniteCovariance → passedOf n m r ≡ done nonFinite
-  unfolding passedOf passed
-  passed-nonFinite e = rw e
+  pub passed-non_finite : r.ending ≡ NonFiniteCovariance → passed_of n m r ≡ done non_finite
+  unfolding passed_of passed
+  passed-non_finite e = rw e
 
-  pub passed-singular : r.ending ≡ SingularCovariance → passedOf n m r ≡ done singular
-  unfolding passedOf passed
+  pub passed-singular : r.ending ≡ SingularCovariance → passed_of n m r ≡ done singular
+  unfolding passed_of passed
   passed-singular e = rw e
 
-  pub passed-unbounded : r.ending ≡ Unbounded → passedOf n m r ≡ done unbounded
-  unfolding passedOf passed
+  pub passed-unbounded : r.ending ≡ Unbounded → passed_of n m r ≡ done unbounded
+  unfolding passed_of passed
   passed-unbounded e = rw e
 
-  pub passed-notConverged : r.ending ≡ NotConverged → passedOf n m r ≡ done notConverged
-  unfolding passedOf passed
-  passed-notConverged e = rw e
+  pub passed-not_converged : r.ending ≡ NotConverged → passed_of n m r ≡ done not_converged
+  unfolding passed_of passed
+  passed-not_converged e = rw e
 
 -- ---- another point
-pub board-is : (i : Iterate) (board : Board) (released : Released) → (withBoard i board released).board ≡ board
-unfolding withBoard
-board-is i board released = refl
+pub board_is : (i : Iterate) (board : Board) (released : Released) → (with_board i board released).board ≡ board
+unfolding with_board
+board_is i board released = refl
 
 -- ---- what every pass keeps
-pub board-consistent : (n : ℕ) (segments : List Segments) (i : Iterate) (board : Board) (released : Released) → AllPlaced n segments board.state →
-    Consistent n segments (withBoard i board released)
-unfolding withBoard
-board-consistent n segments i board released placed = record { placed = placed }
+pub board_consistent : (n : ℕ) (segments : List Segments) (i : Iterate) (board : Board) (released : Released) → AllPlaced n segments board.state →
+    Consistent n segments (with_board i board released)
+unfolding with_board
+board_consistent n segments i board released placed = record { placed = placed }
 
 -- the length of an array that a struct holds, as the borrow checker tells it
-pub length-mapped : (X Y : Type 0) (f : X → Y) (l : List X) (n : ℕ) → length (map f l) ≡ n → length l ≡ n
-length-mapped X Y f l n e = sym (length-map l f) ∙ e
+pub length_mapped : (X Y : Type 0) (f : X → Y) (l : List X) (n : ℕ) → length (map f l) ≡ n → length l ≡ n
+length_mapped X Y f l n e = sym (length-map l f) ∙ e

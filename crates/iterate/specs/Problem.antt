@@ -13,19 +13,19 @@ pub record Shaped (originals n m : ℕ) (q c e b : List Float) : Type 0 where
   pub variables : n ≤ Sizes.variables
   pub columns : m ≤ Sizes.columns
   pub slacks : n - originals ≤ m
-  pub q-holds : n * n ≤ length q
-  pub c-holds : n ≤ length c
-  pub e-holds : n * m ≤ length e
-  pub b-holds : m ≤ length b
+  pub q_holds : n * n ≤ length q
+  pub c_holds : n ≤ length c
+  pub e_holds : n * m ≤ length e
+  pub b_holds : m ≤ length b
 
 -- `let first_slack_column = e.ncols() - (n - originals)`
-abbrev pub firstSlackColumn : (originals n m : ℕ) → ℕ
-firstSlackColumn originals n m = m - (n - originals)
+abbrev pub first_slack_column : (originals n m : ℕ) → ℕ
+first_slack_column originals n m = m - (n - originals)
 
 -- work memory of a pass: rows of Q or of E on the free variables (`room`), q_free, e_free, and the Gram matrix of a factored solve
-pub record Room (originals n m : ℕ) (room qFree eFree gram : List Float) : Type 0 where
+pub record Room (originals n m : ℕ) (room q_free e_free gram : List Float) : Type 0 where
   pub rows : originals * n ≤ length room
   pub columns : originals * m ≤ length room
-  pub q-free : originals * originals ≤ length qFree
-  pub e-free : originals * m ≤ length eFree
-  pub gram-room : m * m ≤ length gram
+  pub q_free_holds : originals * originals ≤ length q_free
+  pub e_free_holds : originals * m ≤ length e_free
+  pub gram_room : m * m ≤ length gram

@@ -32,7 +32,7 @@ pub struct Iterate {
 
 // Another point with its active set.
 pub fn with_board(iterate: Iterate, board: Board, released: Released) -> Iterate
-    ensures { result ≡ Definition.withBoard iterate board released }
+    ensures { result ≡ Definition.with_board iterate board released }
 {
     let freed_at = iterate.freed_at;
     Iterate {

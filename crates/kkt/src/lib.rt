@@ -2,7 +2,7 @@
 ghost use Rattle.std.specs.Prelude.{◌≡◌, ◌≤◌, ◌*◌, length};
 ghost use Rattle.sizes.specs.Sizes as Sizes;
 ghost use Rattle.scaled.specs.System.{Sized, system};
-ghost use Rattle.solution.specs.Solution.{solutionOf};
+ghost use Rattle.solution.specs.Solution.{solution_of};
 ghost use Rattle.kkt.specs.Kkt.{Answered};
 ghost use Rattle.kkt.specs.Kkt as Definition;
 
@@ -20,8 +20,8 @@ fn solve_in(
     ue: &mut [f64],
 ) -> Solution
     requires { Sized n m k.now c.now e.now b.now × (n * n ≤ length uk.old) × (n * m ≤ length ue.old) }
-    ensures { solutionOf n m result
-        ≡ Definition.solveUnits (system n m k.now c.now e.now b.now) }
+    ensures { solution_of n m result
+        ≡ Definition.solve_units (system n m k.now c.now e.now b.now) }
 {
     let scales = units::diagonal_scales(k, n);
     let columns = units::column_scales(e, n, m);
@@ -60,8 +60,8 @@ fn solve_in(
 
 fn solve_small(k: &[f64], c: &[f64], e: &[f64], b: &[f64], n: usize, m: usize) -> Solution
     requires { Sized n m k.now c.now e.now b.now × (n ≤ Sizes.few) × (m ≤ Sizes.equalities) }
-    ensures { solutionOf n m result
-        ≡ Definition.solveUnits (system n m k.now c.now e.now b.now) }
+    ensures { solution_of n m result
+        ≡ Definition.solve_units (system n m k.now c.now e.now b.now) }
 {
     let mut uk = [0.0; sizes::SMALL];
     let mut ue = [0.0; sizes::SMALL];
@@ -70,8 +70,8 @@ fn solve_small(k: &[f64], c: &[f64], e: &[f64], b: &[f64], n: usize, m: usize) -
 
 fn solve_large(k: &[f64], c: &[f64], e: &[f64], b: &[f64], n: usize, m: usize) -> Solution
     requires { Sized n m k.now c.now e.now b.now }
-    ensures { solutionOf n m result
-        ≡ Definition.solveUnits (system n m k.now c.now e.now b.now) }
+    ensures { solution_of n m result
+        ≡ Definition.solve_units (system n m k.now c.now e.now b.now) }
 {
     let mut uk = [0.0; sizes::SQUARE];
     let mut ue = [0.0; sizes::TALL];
@@ -81,8 +81,8 @@ fn solve_large(k: &[f64], c: &[f64], e: &[f64], b: &[f64], n: usize, m: usize) -
 // The solve in work memory of its size.
 fn solve_shaped(k: &[f64], c: &[f64], e: &[f64], b: &[f64], n: usize, m: usize) -> Solution
     requires { Sized n m k.now c.now e.now b.now × (m ≤ Sizes.equalities) }
-    ensures { solutionOf n m result
-        ≡ Definition.solveUnits (system n m k.now c.now e.now b.now) }
+    ensures { solution_of n m result
+        ≡ Definition.solve_units (system n m k.now c.now e.now b.now) }
 {
     if n <= sizes::FEW {
         return solve_small(k, c, e, b, n, m);

@@ -2,7 +2,7 @@
 ghost use Rattle.std.specs.Prelude.{◌≡◌, ◌≤◌, ◌*◌, length, take};
 ghost use Rattle.vector.specs.Vector as Vector;
 ghost use Rattle.sizes.specs.Sizes as Sizes;
-ghost use Rattle.solution.specs.Solution.{answer, solutionOf};
+ghost use Rattle.solution.specs.Solution.{answer, solution_of};
 ghost use Rattle.kkt_original.specs.Original as Definition;
 
 use solution::{KktVerdict, Solution};
@@ -34,7 +34,7 @@ fn restored(
         × (m ≤ length b.now)
         × (n ≤ length scales.now)
         × (m ≤ length columns.now) }
-    ensures { solutionOf n m result
+    ensures { solution_of n m result
         ≡ Definition.restored n m e.now b.now scales.now columns.now (take n u) (take m multipliers) }
 {
     let x = dense::div(&u[..n], scales, n);
@@ -67,7 +67,7 @@ pub fn original(
         × (m ≤ length b.now)
         × (n ≤ length scales.now)
         × (m ≤ length columns.now) }
-    ensures { solutionOf n m result
+    ensures { solution_of n m result
         ≡ Definition.original n m e.now b.now scales.now columns.now
         (answer verdict (take n u) (take m multipliers)) }
 {

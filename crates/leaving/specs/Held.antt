@@ -3,7 +3,7 @@
 use Rattle.std.specs.Prelude.{ℕ, ◌-◌, Bool, false, List, set, Float}
 use Rattle.folds.specs.Fold.{fold, pick}
 use Rattle.folds.specs.Marks.{marked, place}
-use Rattle.update.specs.Update.{removeColumn}
+use Rattle.update.specs.Update.{remove_column}
 
 -- the marks, and the factor of the block on the marked ones
 pub record Held : Type 0 where
@@ -15,10 +15,10 @@ held s l = record { marks = s; factor = l }
 
 -- ---- leaving, the last first
 unfoldable pub left : (o i : ℕ) → Held → Held
-left o i s = held (set s.marks i false) (removeColumn (place s.marks o) (place s.marks i) s.factor)
+left o i s = held (set s.marks i false) (remove_column (place s.marks o) (place s.marks i) s.factor)
 
-unfoldable pub leaveOne : (o : ℕ) (wanted : List Bool) (i : ℕ) → Held → Held
-leaveOne o wanted i s = pick (marked s.marks i) (pick (marked wanted i) s (left o i s)) s
+unfoldable pub leave_one : (o : ℕ) (wanted : List Bool) (i : ℕ) → Held → Held
+leave_one o wanted i s = pick (marked s.marks i) (pick (marked wanted i) s (left o i s)) s
 
 unfoldable pub leaving : (o : ℕ) (wanted : List Bool) → Held → Held
-leaving o wanted s = fold o (λ t. leaveOne o wanted (o - 1 - t)) s
+leaving o wanted s = fold o (λ t. leave_one o wanted (o - 1 - t)) s

@@ -4,5 +4,5 @@ use Rattle.sizes.specs.Sizes as Sizes
 
 pub record Room (originals : ℕ) (l room : List Float) : Type 0 where
   pub few : originals ≤ Sizes.originals
-  pub l-holds : originals * originals ≤ length l
-  pub room-holds : originals * originals ≤ length room
+  pub l_holds : originals * originals ≤ length l
+  pub room_holds : originals * originals ≤ length room

@@ -4,23 +4,23 @@ use Rattle.std.proofs.Math.Path.{refl}
 use Rattle.std.proofs.Math.Bool.{true, false}
 use native.Mathlib.Omega.{arith}
 use Rattle.std.proofs.Math.ListN.{length-set}
-use Rattle.folds.specs.Fold.{fold-keep, pick, pick-keep}
+use Rattle.folds.specs.Fold.{fold_keep, pick, pick_keep}
 use Rattle.folds.specs.Marks.{marked, place, place-left}
 use Rattle.sizes.specs.Sizes as Sizes
 use Rattle.cholesky.specs.Pivots.{Sounds}
 use Rattle.triangular.specs.Triangular.{regular}
-use Rattle.triangular.specs.Pivots.{sounds-regular}
+use Rattle.triangular.specs.Pivots.{sounds_regular}
 use Rattle.update.specs.Leaving.{removed-sound}
-use Rattle.leaving.specs.Held.{Held, left, leaveOne, leaving}
+use Rattle.leaving.specs.Held.{Held, left, leave_one, leaving}
 
 pub record Fine (o : ℕ) (s : Held) : Type 0 where
   pub wide : length s.marks ≡ Sizes.originals
   pub sound : Sounds (place s.marks o) s.factor
 
 module _ (o : ℕ) (few : o ≤ Sizes.originals) where
-  left-fine : (i : ℕ) (s : Held) → i < o → marked s.marks i ≡ true → Fine o s → Fine o (left o i s)
+  left_fine : (i : ℕ) (s : Held) → i < o → marked s.marks i ≡ true → Fine o s → Fine o (left o i s)
   unfolding left
-  left-fine i s h e f =
+  left_fine i s h e f =
       let w : place s.marks o ≡ place (set s.marks i false) o + 1 = place-left s.marks i o h (omega (arith, f.wide)) e in
       let z : place (set s.marks i false) o ≡ place s.marks o - 1 = omega arith in
       record {
@@ -28,18 +28,18 @@ module _ (o : ℕ) (few : o ≤ Sizes.originals) where
         sound = rw z (removed-sound (place s.marks o) (place s.marks i) s.factor (omega arith) f.sound);
       }
 
-  one-fine : (want : List Bool) (i : ℕ) (s : Held) → i < o → Fine o s → Fine o (leaveOne o want i s)
-  unfolding leaveOne
-  one-fine want i s h f = go (marked s.marks i) refl
+  one_fine : (want : List Bool) (i : ℕ) (s : Held) → i < o → Fine o s → Fine o (leave_one o want i s)
+  unfolding leave_one
+  one_fine want i s h f = go (marked s.marks i) refl
     where
       go : (b : Bool) → marked s.marks i ≡ b → Fine o (pick b (pick (marked want i) s (left o i s)) s)
-      go true e = unfold pick in pick-keep (Fine o) (marked want i) {x = s} {y = left o i s} f (left-fine i s h e f)
+      go true e = unfold pick in pick_keep (Fine o) (marked want i) {x = s} {y = left o i s} f (left_fine i s h e f)
       go false e = unfold pick in f
 
-  pub leaving-fine : (want : List Bool) (s : Held) → Fine o s → Fine o (leaving o want s)
+  pub leaving_fine : (want : List Bool) (s : Held) → Fine o s → Fine o (leaving o want s)
   unfolding leaving
-  leaving-fine want s f = fold-keep (Fine o) o (λ t. leaveOne o want (o - 1 - t)) s f (λ t x l q. one-fine want (o - 1 - t) x (omega arith) q)
+  leaving_fine want s f = fold_keep (Fine o) o (λ t. leave_one o want (o - 1 - t)) s f (λ t x l q. one_fine want (o - 1 - t) x (omega arith) q)
 
   -- what joins divides by the pivots of those that stay, and none is 0
   pub leaving-regular : (want : List Bool) (s : Held) → Fine o s → regular (leaving o want s).factor (place (leaving o want s).marks o) ≡ true
-  leaving-regular want s f = sounds-regular (place (leaving o want s).marks o) (leaving o want s).factor (leaving-fine want s f).sound
+  leaving-regular want s f = sounds_regular (place (leaving o want s).marks o) (leaving o want s).factor (leaving_fine want s f).sound

@@ -33,7 +33,7 @@ fn leave_one(
     room: &mut [f64],
 ) -> [bool; sizes::ORIGINALS]
     requires { Room originals l.old room.old × (i < originals) }
-    ensures { Held.held result l.new ≡ Held.leaveOne originals wanted i (Held.held s l.old) }
+    ensures { Held.held result l.new ≡ Held.leave_one originals wanted i (Held.held s l.old) }
 {
     if s[i] {
         if wanted[i] {

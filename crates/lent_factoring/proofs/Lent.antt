@@ -43,11 +43,11 @@ module _ (ℓ₁ ℓ₂ ℓ₃ ℓ₄ : Lifetime) (κs : Lfts 4) where
   Others =
       ShrSlice ℓ₁ κs.0 f64 ∷ usize ∷ usize ∷ ShrSlice ℓ₂ κs.1.0 usize ∷ MutSlice ℓ₃ κs.1.1.0 f64 ∷ MutSlice ℓ₄ κs.1.1.1.0 f64 ∷ []
 
-  abbrev pub others-spelled : Spells Others
-  others-spelled = (shr_slice_vals, (uint_vals w64, (uint_vals w64, (shr_slice_vals, (shr_slice_vals, (shr_slice_vals, tt))))))
+  abbrev pub others_spelled : Spells Others
+  others_spelled = (shr_slice_vals, (uint_vals w64, (uint_vals w64, (shr_slice_vals, (shr_slice_vals, (shr_slice_vals, tt))))))
 
-  pub others-tell : Tellss Others (Ises Others) others-spelled
-  others-tell =
+  pub others_tell : Tellss Others (Ises Others) others_spelled
+  others_tell =
       let tell-l = mut_slice_Tells ℓ₃ κs.1.1.0 f64 in
       let tell-room = mut_slice_Tells ℓ₄ κs.1.1.1.0 f64 in
       let tell-indices = shr_slice_Tells ℓ₂ κs.1.0 usize in
@@ -55,8 +55,8 @@ module _ (ℓ₁ ℓ₂ ℓ₃ ℓ₄ : Lifetime) (κs : Lfts 4) where
 
 module _ {M : Type 1} {𝓤 : Ura M} {𝓛 : Logic 𝓤} {K : Type 0} {Γ : List (Item 𝓤)} {G : Goal 𝓤 𝓛.H} where
   -- what a record owns is plain: it is had for nothing
-  pub owns-again : K → (h : Factoring) → Is Row h (mach h ∷ []) → Step K 𝓛 (‵ (Row.own_val h (mach h ∷ [])) ∷ Γ) G Γ G
-  owns-again t h g = owned t Row (Is Row) (LL.makes T.the_type T'.the_plain 𝓛) h (mach h ∷ []) g
+  pub owns_again : K → (h : Factoring) → Is Row h (mach h ∷ []) → Step K 𝓛 (‵ (Row.own_val h (mach h ∷ [])) ∷ Γ) G Γ G
+  owns_again t h g = owned t Row (Is Row) (LL.makes T.the_type T'.the_plain 𝓛) h (mach h ∷ []) g
 
   -- what a call asks: the first parameter, what the others own, the tokens and what is required
   pub asks : K → {P Q : Fml} {i j : Item 𝓤} → Step K 𝓛 (((i ⊛ ‵ (fsep P Q)) ⊛ j) ∷ Γ) G (‵ P ∷ ‵ Q ∷ i ∷ j ∷ Γ) G
@@ -75,20 +75,20 @@ module _ {M : Type 1} {𝓤 : Ura M} (𝓛 : Logic 𝓤) where
   part_in h g l =
       qed 𝓛 (‵ (fat full_share T'.mir l 0 (mach h)) ∷ []) ∵
       use1 𝓛 (‵ (cell_at full_share Row.mir (mach h ∷ []) l 0)) (𝓛.laws.at_raw full_share T'.mir l 0 (mach h)) $
-      owns-again ! h g $ move ! (1 ∷ 0 ∷ []) $ fjoin ! $
+      owns_again ! h g $ move ! (1 ∷ 0 ∷ []) $ fjoin ! $
       fpack ! (List Val) (λ vs. fsep (cell_at full_share Row.mir vs l 0) (Row.own_val h vs)) (mach h ∷ []) $ done !
 
-  part_out : (h : Factoring) (l : ℕ) → ent 𝓤 (sem 𝓛 (part_at Row full_share h l 0))
+  part-out : (h : Factoring) (l : ℕ) → ent 𝓤 (sem 𝓛 (part_at Row full_share h l 0))
       (sep 𝓤 (H.at full_share T'.mir l 0 (mach h)) (sem 𝓛 (Row.own_val h (mach h ∷ []))))
   unfolding part_of
-  part_out h l =
+  part-out h l =
       qed 𝓛 (‵ (part_at Row full_share h l 0) ∷ []) ∵ fpick ! (λ vs. fsplit ! $
       spelt ! Row (Is Row) (shows 𝓛 Row) (LL.vals T.the_type T'.the_laws) (LL.tells T.the_type T'.the_laws) full_share h vs l 0 $
       use1 𝓛 (‵ (fat full_share T'.mir l 0 (mach h))) (𝓛.laws.raw_at full_share T'.mir l 0 (mach h)) $ done !)
 
 -- what a reference to the record owns
-abbrev pub ref-to : Lft → ℕ → ℕ → GName → Factoring → Fml
-ref-to κ b o γ h = (MutRef (named 0) κ Row).own_val (record { ref_ptr = (b, o); ghost_name = γ; now = h }) (vptr b o ∷ [])
+abbrev pub ref_to : Lft → ℕ → ℕ → GName → Factoring → Fml
+ref_to κ b o γ h = (MutRef (named 0) κ Row).own_val (record { ref_ptr = (b, o); ghost_name = γ; now = h }) (vptr b o ∷ [])
 
 abbrev coded : Factoring → Gv
 coded h = Row.coded.code h
@@ -98,28 +98,28 @@ module _ {M : Type 1} {𝓤 : Ura M} {𝓛 : Logic 𝓤} {K : Type 0} {Γ : List
   -- at entry of a function to which the record is lent: its borrow and its token, and beside them what the other parameters own
   pub apart : K → (h : Factoring) {κ : Lft} {q : Share} {b o : ℕ} {γ : GName} {P : Fml} {i j : Item 𝓤} →
       Step K 𝓛 (‵ (fobs γ (coded h)) ∷ ‵ (fbor κ (Body (mem Row) b o γ)) ∷ ‵ (flft κ q) ∷ ‵ P ∷ i ∷ j ∷ Γ) G
-      (((‵ (flft κ q) ⊛ i) ⊛ ‵ (fsep (ref-to κ b o γ h) P)) ∷ j ∷ Γ) G
+      (((‵ (flft κ q) ⊛ i) ⊛ ‵ (fsep (ref_to κ b o γ h) P)) ∷ j ∷ Γ) G
   apart t h = step (λ s.
       split t $ split t $ move t (2 ∷ []) $ fsplit t $ fsplit3 t $ drop t $ move t (0 ∷ 1 ∷ 3 ∷ []) $ s)
 
   -- the borrow is opened at the record's machine value
-  pub opens-record : K → Soaks G → {κ : Lft} {q : Share} {γ : GName} (h : Factoring) (b o : ℕ) →
+  pub opens_record : K → Soaks G → {κ : Lft} {q : Share} {γ : GName} (h : Factoring) (b o : ℕ) →
       (Is Row h (mach h ∷ []) → Seq K 𝓛 (‵ (cell_at full_share Row.mir (mach h ∷ []) b o) ∷ ‵ (Row.own_val h (mach h ∷ []))
       ∷ ‵ (fobor κ q (Body (mem Row) b o γ)) ∷ ‵ (fobs γ (coded h)) ∷ ‵ (fauth γ (coded h)) ∷ Γ) G) →
       Seq K 𝓛 (‵ (fobs γ (coded h)) ∷ ‵ (fbor κ (Body (mem Row) b o γ)) ∷ ‵ (flft κ q) ∷ Γ) G
-  opens-record t z h b o k =
+  opens_record t z h b o k =
       opens t z Row {h = h} b o (λ vs.
       spelt t Row (Is Row) (shows 𝓛 Row) (LL.vals T.the_type T'.the_laws) (LL.tells T.the_type T'.the_laws) full_share h vs b o $
       move t (1 ∷ []) $ peeks t Row (Is Row) (shows 𝓛 Row) h (mach h ∷ []) (λ g. move t (1 ∷ 0 ∷ []) $ k g))
 
   -- a local that holds the record is lent to a call, for a lifetime that is made for it
-  pub lends-record : K → Soaks G → (h : Factoring) → Is Row h (mach h ∷ []) → (l : ℕ) {P : Fml} {i j : Item 𝓤} →
-      ((α : ℕ) (δ : GName) → Seq K 𝓛 ((((‵ (flft (α ∷ []) full_share) ⊛ i) ⊛ ‵ (fsep (ref-to (α ∷ []) l 0 δ h) P)) ⊛ j)
+  pub lends_record : K → Soaks G → (h : Factoring) → Is Row h (mach h ∷ []) → (l : ℕ) {P : Fml} {i j : Item 𝓤} →
+      ((α : ℕ) (δ : GName) → Seq K 𝓛 ((((‵ (flft (α ∷ []) full_share) ⊛ i) ⊛ ‵ (fsep (ref_to (α ∷ []) l 0 δ h) P)) ⊛ j)
       ∷ ‵ (flent (α ∷ []) (Body (mem Row) l 0 δ)) ∷ Γ) G) →
       Seq K 𝓛 (‵ (fat full_share T'.mir l 0 (mach h)) ∷ ‵ P ∷ i ∷ j ∷ Γ) G
-  lends-record t z h g l k =
+  lends_record t z h g l k =
       use1 𝓛 (‵ (part_at Row full_share h l 0)) (part_in 𝓛 h g l) $ lft_new t z (λ α. move t (1 ∷ []) $
-      use1 𝓛 (later (some (λ (δ : GName). ‵ (ref-to (α ∷ []) l 0 δ h) ⊛ ‵ (flent (α ∷ []) (Body (mem Row) l 0 δ)))))
+      use1 𝓛 (later (some (λ (δ : GName). ‵ (ref_to (α ∷ []) l 0 δ h) ⊛ ‵ (flent (α ∷ []) (Body (mem Row) l 0 δ)))))
       (lends_ref 𝓛 Row (named 0) (α ∷ []) h l 0) $ await t z $ pick t (λ δ. split t $
       -- [the reference; the lender's part; the token; what the others own; their tokens; what is required]
       move t (2 ∷ 4 ∷ []) $ join t $ move t (1 ∷ 3 ∷ 0 ∷ 4 ∷ []) $ asks t $ k α δ))
@@ -132,7 +132,7 @@ module _ {M : Type 1} {𝓤 : Ura M} {𝓛 : Logic 𝓤} {K : Type 0} {Γ : List
       drop t $ split t $ move t (2 ∷ []) $ fsplit t $
       -- [the last value; what is said of the others; the token; their tokens; what is ensured; the lender's part]
       move t (2 ∷ 5 ∷ 0 ∷ []) $ lft_end t z $ use3 𝓛 (later (‵ (part_at Row full_share w l 0))) (ref_back 𝓛 Row (α ∷ []) δ w l 0) $
-      await t z $ use1 𝓛 (‵ (fat full_share T'.mir l 0 (mach w)) ⊛ ‵ (Row.own_val w (mach w ∷ []))) (part_out 𝓛 w l) $ split t $
+      await t z $ use1 𝓛 (‵ (fat full_share T'.mir l 0 (mach w)) ⊛ ‵ (Row.own_val w (mach w ∷ []))) (part-out 𝓛 w l) $ split t $
       move t (1 ∷ []) $ peeks t Row (Is Row) (shows 𝓛 Row) w (mach w ∷ []) (λ is. move t (1 ∷ 0 ∷ []) $ k is)
 
 -- ---- what a walk has at its end, in the order of `on_exit`: of a function to which the record is lent, and of one that has lent it

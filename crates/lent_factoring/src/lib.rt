@@ -1,13 +1,13 @@
 // The kept factor, lent by mutable reference and changed there (document 01); each call is proved equal to the by-value one of `factoring`.
 ghost use Rattle.std.specs.Prelude.{◌≡◌};
-ghost use Rattle.factoring.specs.Kept.{factor, keptOf};
+ghost use Rattle.factoring.specs.Kept.{factor, kept_of};
 ghost use Rattle.factoring.specs.Kept as Kept;
 
 use factoring::Factoring;
 
 // Drops the factor.
 pub fn reset(f: &mut Factoring)
-    ensures { keptOf f.new ≡ Kept.reset (keptOf f.old) }
+    ensures { kept_of f.new ≡ Kept.reset (kept_of f.old) }
 {
     *f = (*f).reset();
 }
@@ -22,8 +22,8 @@ pub fn update(
     room: &mut [f64],
 )
     requires { Kept.Updatable n originals q.now indices.now f.old l.old room.old }
-    ensures l_after { factor (keptOf f.new) l.new
-        ≡ Kept.update q.now n indices.now (keptOf f.old) l.old }
+    ensures l_after { factor (kept_of f.new) l.new
+        ≡ Kept.update q.now n indices.now (kept_of f.old) l.old }
     ensures good { Kept.Good originals f.new l.new }
 {
     *f = (*f).update(q, n, originals, indices, l, room);
@@ -31,7 +31,7 @@ pub fn update(
 
 // The same for a caller that holds the record by value: these contracts name no reference to it.
 pub fn dropped(f: Factoring) -> Factoring
-    ensures { keptOf result ≡ Kept.reset (keptOf f) }
+    ensures { kept_of result ≡ Kept.reset (kept_of f) }
 {
     let mut kept = f;
     reset(&mut kept);
@@ -48,7 +48,7 @@ pub fn updated(
     room: &mut [f64],
 ) -> Factoring
     requires { Kept.Updatable n originals q.now indices.now f l.old room.old }
-    ensures l_after { factor (keptOf result) l.new ≡ Kept.update q.now n indices.now (keptOf f) l.old }
+    ensures l_after { factor (kept_of result) l.new ≡ Kept.update q.now n indices.now (kept_of f) l.old }
     ensures good { Kept.Good originals result l.new }
 {
     let mut next = f;

@@ -14,7 +14,7 @@ use denote.RattleType.{RattleType, Denots, Valss, owns}
 use denote.Steps.{owned}
 use denote.Enum.Laws as EL
 use denote.Struct.Laws as LL
-use Rattle.walks.specs.Walks.{owned-all}
+use Rattle.walks.specs.Walks.{owned_all}
 use Rattle.blocking.specs.contracts.Board as B
 use Rattle.blocking.proofs.Board.TheLaws as B'
 use Rattle.step_length.specs.contracts.Side as S
@@ -95,13 +95,13 @@ module _ (R : RattleType) where
 
 module _ {M : Type 1} {𝓤 : Ura M} {𝓛 : Logic 𝓤} {K : Type 0} {Γ : List (Item 𝓤)} {G : Goal 𝓤 𝓛.H} where
   -- what the others own is had for nothing
-  pub owned-around : K → (R : RattleType) (a : Denots (around R)) (vss : Valss (around R)) → Is B.the_row a.0 vss.0 →
+  pub owned_around : K → (R : RattleType) (a : Denots (around R)) (vss : Valss (around R)) → Is B.the_row a.0 vss.0 →
       Is usize a.1.0 vss.1.0 → Is S.the_row a.1.1.0 vss.1.1.0 →
       Are (f64 ∷ D.the_row ∷ []) (Ises (f64 ∷ D.the_row ∷ [])) a.1.1.1.1 vss.1.1.1.1 →
       Step K 𝓛 (‵ (owns (around R) a vss) ∷ Γ) G (‵ (R.own_val a.1.1.1.0 vss.1.1.1.0) ∷ Γ) G
-  owned-around t R a vss board i side after = step (λ s.
+  owned_around t R a vss board i side after = step (λ s.
       let mk = makes usize 𝓛 (uint_Makes 𝓛 w64) in
-      owned-all t (f64 ∷ D.the_row ∷ []) mk.1.1.1.1 a.1.1.1.1 vss.1.1.1.1 after $ move t (1 ∷ 0 ∷ []) $ fjoin t $
+      owned_all t (f64 ∷ D.the_row ∷ []) mk.1.1.1.1 a.1.1.1.1 vss.1.1.1.1 after $ move t (1 ∷ 0 ∷ []) $ fjoin t $
       owned t S.the_row (Is S.the_row) mk.1.1.0 a.1.1.0 vss.1.1.0 side $ fjoin t $
       owned t usize (Is usize) mk.1.0 a.1.0 vss.1.0 i $ fjoin t $
       owned t B.the_row (Is B.the_row) mk.0 a.0 vss.0 board $ fjoin t $ s)

@@ -35,7 +35,7 @@ use denote.Triple.Spec.{triple_of}
 use denote.Triple.Statement.{Contract}
 use Rattle.sizes.specs.Sizes as Sizes
 use Rattle.walks.specs.Walks.{asks, answers}
-use Rattle.segments.specs.Segments.{segmentsAt}
+use Rattle.segments.specs.Segments.{segments_at}
 use Rattle.segments.specs.declared.Segments.{Segments}
 use Rattle.segments.specs.contracts.Segments as T
 use Rattle.segments.proofs.Segments.TheLaws as T'
@@ -75,11 +75,11 @@ module _ {M : Type 1} {𝓤 : Ura M} {𝓛 : Logic 𝓤} {K : Type 0} {Γ : List
 
   -- what the record owns is had for nothing
   pub is_read : K → Soaks G → (at_mem : Memory → SProp 𝓤) (run : Routine → Fun 𝓤) (κ : Lft) (q : Share) (x : Lent) (i : ℕ) (v : Val) →
-      (Is Row (segmentsAt x.now i) (v ∷ []) → Seq K 𝓛 ((‵ (flft κ q) ⊛ ‵ ftrue) ∷ Γ) G) →
+      (Is Row (segments_at x.now i) (v ∷ []) → Seq K 𝓛 ((‵ (flft κ q) ⊛ ‵ ftrue) ∷ Γ) G) →
       Seq K 𝓛 (raw ((Read 𝓛 at_mem run).post (to_read 𝓛 at_mem run κ q x i) v) ∷ Γ) G
   is_read t z at_mem run κ q x i v k =
       answers t z read.ended (read.clauses 𝓛 at_mem run) (to_read 𝓛 at_mem run κ q x i) v (λ r ws is.
-      drop t $ move t (2 ∷ []) $ heard t (r ≡ segmentsAt x.now i) (λ e.
+      drop t $ move t (2 ∷ []) $ heard t (r ≡ segments_at x.now i) (λ e.
       use1 𝓛 (‵ (flft κ q) ⊛ ‵ ftrue) (id⊢ 𝓤 _) $ move t (1 ∷ []) $ drop t $ k (subst (λ (s : Segments). Is Row s (v ∷ [])) e is)))
 
 -- ---- an array, in a local
@@ -133,8 +133,8 @@ abbrev τ : Ty
 τ = ty_array T'.mir Sizes.variables
 
 -- the type of the slice that is made of it
-abbrev pub lentTy : Ty
-lentTy = slice_ty (ty_ref erased imm (pointee Row.written))
+abbrev pub lent_ty : Ty
+lent_ty = slice_ty (ty_ref erased imm (pointee Row.written))
 
 pub room : Room Row Sizes.variables
 room = (omega arith, omega arith)
@@ -152,15 +152,15 @@ lent xs l δ = record { ref_ptr = (l, 0); now = xs }
 abbrev pub parts : List Segments → ℕ → Fml
 parts = parts_of Row one
 
-pub records-lawful : {M : Type 1} {𝓤 : Ura M} (𝓛 : Logic 𝓤) → Lawful 𝓛 Records
-records-lawful 𝓛 = Array-Lawful 𝓛 Row (LL.lawful T.the_type T'.the_laws 𝓛) Sizes.variables
+pub records_lawful : {M : Type 1} {𝓤 : Ura M} (𝓛 : Logic 𝓤) → Lawful 𝓛 Records
+records_lawful 𝓛 = Array-Lawful 𝓛 Row (LL.lawful T.the_type T'.the_laws 𝓛) Sizes.variables
 
 module _ {M : Type 1} {𝓤 : Ura M} {𝓛 : Logic 𝓤} {K : Type 0} {Γ : List (Item 𝓤)} {G : Goal 𝓤 𝓛.H} where
   -- it is lent to a call, for a lifetime that is made for it
-  pub lends-records : K → Soaks G → (xs : List Segments) → Is Records xs (mach xs ∷ []) → (l : ℕ) →
+  pub lends_records : K → Soaks G → (xs : List Segments) → Is Records xs (mach xs ∷ []) → (l : ℕ) →
       ((α : ℕ) (δ : GName) → Seq K 𝓛 (‵ (slice (α ∷ []) (lent xs l δ)) ∷ (‵ (flft (α ∷ []) full_share) ⊛ ‵ ftrue)
       ∷ ‵ (flent (α ∷ []) (parts xs l)) ∷ Γ) G) → Seq K 𝓛 (‵ (fat full_share τ l 0 (mach xs)) ∷ Γ) G
-  lends-records t z xs g l k =
+  lends_records t z xs g l k =
       use1 𝓛 (‵ (parts xs l))
       (apart Row one 𝓛 (LL.makes T.the_type T'.the_plain 𝓛) Sizes.variables xs g l tt) $ lft_new t z (λ α. move t (1 ∷ []) $
       use1 𝓛 (later (some (λ (δ : GName). ‵ (slice (α ∷ []) (lent xs l δ)) ⊛ ‵ (flent (α ∷ []) (parts xs l)))))
@@ -168,8 +168,8 @@ module _ {M : Type 1} {𝓤 : Ura M} {𝓛 : Logic 𝓤} {K : Type 0} {Γ : List
       await t z $ pick t (λ δ. split t $ nothing t $ move t (3 ∷ 0 ∷ []) $ join t $ move t (1 ∷ 0 ∷ []) $ k α δ))
 
   -- and comes back
-  pub records-back : K → Soaks G → (xs : List Segments) → Is Records xs (mach xs ∷ []) → (l : ℕ) {α : ℕ} →
+  pub records_back : K → Soaks G → (xs : List Segments) → Is Records xs (mach xs ∷ []) → (l : ℕ) {α : ℕ} →
       Step K 𝓛 (‵ (fat full_share τ l 0 (mach xs)) ∷ Γ) G ((‵ (flft (α ∷ []) full_share) ⊛ ‵ ftrue) ∷ ‵ (flent (α ∷ []) (parts xs l)) ∷ Γ) G
-  records-back t z xs g l = step (λ s.
+  records_back t z xs g l = step (λ s.
       split t $ move t (1 ∷ []) $ drop t $ lft_end t z $ lent_back t z $ use1 𝓛 (‵ (fat full_share τ l 0 (mach xs)))
       (whole Row one 𝓛 (LL.makes T.the_type T'.the_plain 𝓛) Sizes.variables xs g l (LL.tells T.the_type T'.the_laws)) $ s)

@@ -68,10 +68,10 @@ module _ {M : Type 1} {𝓤 : Ura M} {𝓛 : Logic 𝓤} {K : Type 0} {Γ : List
       feq_i t ℕ (length ys) (length x.now) e $ move t (1 ∷ 0 ∷ []) $ fjoin t $ move t (1 ∷ []) $ drop t $ s)
 
   -- element i is taken out to be stored to, and y is put in its place
-  pub float_out : K → (x : Floats) (ys : List Float) (i : ℕ) → i < length ys →
+  pub float-out : K → (x : Floats) (ys : List Float) (i : ℕ) → i < length ys →
       Step K 𝓛 (‵ (fat full_share (ty_float binary64) x.ptr.0 (place_of 8 x.ptr.1 i) (vfloat binary64 (get_or ys i nan)))
       ∷ ‵ (others (shares f64) full_share ys i x.ptr.0 x.ptr.1) ∷ Γ) G (‵ (floats x ys) ∷ Γ) G
-  float_out t x ys i l = step (λ s.
+  float-out t x ys i l = step (λ s.
       elem_out t f64 (Is f64) (shows 𝓛 f64) (float_vals binary64) (float_Tells binary64) full_share ys i nan x.ptr.0 x.ptr.1 l (λ _.
       move t (1 ∷ []) $ drop t $ s))
 
@@ -111,9 +111,9 @@ module _ {M : Type 1} {𝓤 : Ura M} {𝓛 : Logic 𝓤} {K : Type 0} {Γ : List
       -- [element i; what it owns; the others; what shuts; the slice]
       move t (3 ∷ 4 ∷ []) $ join t $ move t (2 ∷ 3 ∷ []) $ join t $ join t $ move t (1 ∷ 0 ∷ []) $ k q' g.1))
 
-  pub number-back : K → Soaks G → {κ : Lft} {q : Share} (q' : Share) (x : Numbers) (i : ℕ) → i < length x.now →
+  pub number_back : K → Soaks G → {κ : Lft} {q : Share} (q' : Share) (x : Numbers) (i : ℕ) → i < length x.now →
       Step K 𝓛 (‵ (numbers κ x) ∷ ‵ (flft κ q) ∷ Γ) G (‵ (number q' x i) ∷ beside κ q q' x i ∷ Γ) G
-  number-back t z q' x i l = step (λ s.
+  number_back t z q' x i l = step (λ s.
       move t (1 ∷ []) $ split t $ split t $ move t (2 ∷ []) $ split t $
       -- [what shuts; the slice; what it owns; the others; element i]
       move t (4 ∷ 2 ∷ 3 ∷ []) $ elem_back t usize q' x.now i 0 (vint w64 (get_or x.now i 0) ∷ []) x.ref_ptr.0 x.ref_ptr.1 l $

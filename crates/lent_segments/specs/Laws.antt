@@ -4,26 +4,26 @@ use Rattle.std.proofs.Math.Path.{refl}
 use Rattle.std.proofs.Common.{sym, ◌∙◌}
 use native.Mathlib.Omega.{arith}
 use Rattle.std.proofs.Math.ListN.{length, set}
-use Rattle.folds.specs.Fold.{fold-turn, tab, over}
-use Rattle.folds.specs.Tab.{length-tab, getD-tab, tab-same, part-tab, over-in, over-tab, length_over}
+use Rattle.folds.specs.Fold.{fold_turn, tab, over}
+use Rattle.folds.specs.Tab.{length-tab, get_d_tab, tab-same, part-tab, over_in, over-tab, length-over}
 use Rattle.arith.specs.Float.{f0}
-use Rattle.segments.specs.Segments.{IsFree, segmentsAt, stateAt}
+use Rattle.segments.specs.Segments.{IsFree, segments_at, state_at}
 use Rattle.segments.specs.declared.Segments.{Segments}
 use Rattle.segments.specs.declared.Spot.{Spot}
 use Rattle.segments.specs.declared.State.{State}
 use Rattle.segments.specs.declared.State.TheVariants.{At, Free}
-use Rattle.lent_segments.specs.Lent.{segmentOf, segmentIn, entries}
+use Rattle.lent_segments.specs.Lent.{segment_of, segment_in, entries}
 use Rattle.lent_segments.specs.declared.Segment.{Segment}
 
-pub free_in : (t : State) → IsFree t → t ≡ Free (segmentOf t)
-unfolding segmentOf
+pub free_in : (t : State) → IsFree t → t ≡ Free (segment_of t)
+unfolding segment_of
 free_in (At p) h = absurd h
 free_in (Free j) h = refl
 
 -- ---- what is read of the listed variables' records
 module _ (read : Segment → Float) (indices : List ℕ) (segments : List Segments) (state : List Spot) where
   abbrev entry : ℕ → Float
-  entry t = let i = get_or indices t 0 in read (segmentIn (segmentsAt segments i) (stateAt state i))
+  entry t = let i = get_or indices t 0 in read (segment_in (segments_at segments i) (state_at state i))
 
   pub length-entries : (k : ℕ) → length (entries read k indices segments state) ≡ k
   unfolding entries
@@ -40,22 +40,22 @@ module _ (read : Segment → Float) (indices : List ℕ) (segments : List Segmen
       let z : i + 0 ≡ i = omega arith in
       let u : i < count = omega arith in
       let v : i < length (tab count entry) = rw (length-tab count entry) u in
-      rw (z, e, over-in f0 (tab count entry) o i v, getD-tab f0 count i entry u))
+      rw (z, e, over_in f0 (tab count entry) o i v, get_d_tab f0 count i entry u))
 
   -- written one by one over the start of y
   module _ (y : List Float) where
     abbrev at : ℕ → List Float
     at k = over (entries read k indices segments state) y
 
-    pub read_none : y ≡ at 0
+    pub read-none : y ≡ at 0
     unfolding entries over tab
-    read_none = refl
+    read-none = refl
 
-    pub read-turn : (k : ℕ) → k < length y → set (at k) k (entry k) ≡ at (k + 1)
+    pub read_turn : (k : ℕ) → k < length y → set (at k) k (entry k) ≡ at (k + 1)
     unfolding entries
-    read-turn k h =
+    read_turn k h =
         let before = over-tab k k entry y (omega arith) (omega arith) (omega arith) refl in
-        over-tab (k + 1) (k + 1) entry y (omega arith) (omega arith) (omega arith) (fold-turn k (λ t l. set l t (entry t)) y (sym before))
+        over-tab (k + 1) (k + 1) entry y (omega arith) (omega arith) (omega arith) (fold_turn k (λ t l. set l t (entry t)) y (sym before))
 
-    pub read_length : (k : ℕ) → k ≤ length y → length (at k) ≡ length y
-    read_length k h = length_over _ y (rw (length-entries k) h)
+    pub read-length : (k : ℕ) → k ≤ length y → length (at k) ≡ length y
+    read-length k h = length-over _ y (rw (length-entries k) h)

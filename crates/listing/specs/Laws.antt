@@ -7,11 +7,11 @@ use native.Mathlib.Omega.{arith}
 use Rattle.std.proofs.Math.Nat.{div-add-mod}
 use Rattle.std.specs.Int.Signed.{mag}
 use Rattle.std.proofs.Math.ListN.{length-append}
-use Rattle.folds.specs.Fold.{pick, pick_true, pick-false}
+use Rattle.folds.specs.Fold.{pick, pick_true, pick_false}
 use Rattle.block.specs.Block.{Block, word}
 use Rattle.block.specs.Plan.{time}
-use Rattle.listing.specs.Listing.{digit, digits, decimal, integer, word_line, wordLines}
-use Rattle.listing.specs.Appended.{Room, Appended, appended-none, room-first, room_next, appended-two, one_byte}
+use Rattle.listing.specs.Listing.{digit, digits, decimal, integer, word_line, word_lines}
+use Rattle.listing.specs.Appended.{Room, Appended, appended_none, room-first, room-next, appended_two, one_byte}
 
 -- ---- decimal digits, one by one
 tenth : (n k : ℕ) → 10 ≤ n → n < suc k → n / 10 < k
@@ -21,33 +21,33 @@ digits-small : (k n : ℕ) → n < 10 → digits (suc k) n ≡ digit n ∷ []
 unfolding digits
 digits-small k n h = sym (pick_true _ _ (lt-ltb n 10 h) refl)
 
-digits-large : (k n : ℕ) → 10 ≤ n → digits (suc k) n ≡ digits k (n / 10) ++ (digit (n % 10) ∷ [])
+digits_large : (k n : ℕ) → 10 ≤ n → digits (suc k) n ≡ digits k (n / 10) ++ (digit (n % 10) ∷ [])
 unfolding digits
-digits-large k n h = sym (pick-false _ _ (le-ltb n 10 h) refl)
+digits_large k n h = sym (pick_false _ _ (le-ltb n 10 h) refl)
 
 -- whatever the bound on their number
-digits_same : (k l n : ℕ) → n < k → n < l → digits k n ≡ digits l n
-digits_same zero l n h i = absurd (not-suc-le-zero h)
-digits_same (suc k) zero n h i = absurd (not-suc-le-zero i)
-digits_same (suc k) (suc l) n h i = go (ltb n 10) refl (digits_same k l (n / 10))
+digits-same : (k l n : ℕ) → n < k → n < l → digits k n ≡ digits l n
+digits-same zero l n h i = absurd (not-suc-le-zero h)
+digits-same (suc k) zero n h i = absurd (not-suc-le-zero i)
+digits-same (suc k) (suc l) n h i = go (ltb n 10) refl (digits-same k l (n / 10))
   where
     go : (t : Bool) → ltb n 10 ≡ t → (n / 10 < k → n / 10 < l → digits k (n / 10) ≡ digits l (n / 10)) → digits (suc k) n ≡ digits (suc l) n
     go true e same = let s = ltb-true n 10 e in digits-small k n s ∙ sym (digits-small l n s)
     go false e same =
         let s = ltb-false n 10 e in
-        digits-large k n s
+        digits_large k n s
         ∙ ap (λ (d : List ℕ). d ++ (digit (n % 10) ∷ [])) (same (tenth n k s h) (tenth n l s i))
-        ∙ sym (digits-large l n s)
+        ∙ sym (digits_large l n s)
 
 pub decimal-small : (n : ℕ) → n < 10 → decimal n ≡ digit n ∷ []
 unfolding decimal
 decimal-small n h = digits-small n n h
 
-pub decimal-large : (n : ℕ) → 10 ≤ n → decimal n ≡ decimal (n / 10) ++ (digit (n % 10) ∷ [])
+pub decimal_large : (n : ℕ) → 10 ≤ n → decimal n ≡ decimal (n / 10) ++ (digit (n % 10) ∷ [])
 unfolding decimal
-decimal-large n h =
-    digits-large n n h
-    ∙ ap (λ (d : List ℕ). d ++ (digit (n % 10) ∷ [])) (digits_same n (suc (n / 10)) (n / 10) (tenth n n h (omega arith)) (omega arith))
+decimal_large n h =
+    digits_large n n h
+    ∙ ap (λ (d : List ℕ). d ++ (digit (n % 10) ∷ [])) (digits-same n (suc (n / 10)) (n / 10) (tenth n n h (omega arith)) (omega arith))
 
 -- a digit of n goes to the slice o from `at` on: it is the only one, or k is what the slice holds with the others, which end at m
 module _ {at n : ℕ} {o : List ℕ} (R : Room at (decimal n) o) where
@@ -55,22 +55,22 @@ module _ {at n : ℕ} {o : List ℕ} (R : Room at (decimal n) o) where
     pub room-digit : at < length o
     room-digit = omega (arith, R.fits, ap length (decimal-small n h))
 
-    pub only-digit : Appended at (decimal n) o (at + 1) (set o at (digit n))
-    only-digit = rw (decimal-small n h) (one_byte o at (digit n) room-digit)
+    pub only_digit : Appended at (decimal n) o (at + 1) (set o at (digit n))
+    only_digit = rw (decimal-small n h) (one_byte o at (digit n) room-digit)
 
   module _ (h : 10 ≤ n) where
-    room-large : Room at (decimal (n / 10) ++ (digit (n % 10) ∷ [])) o
-    room-large = rw (← decimal-large n h) R
+    room_large : Room at (decimal (n / 10) ++ (digit (n % 10) ∷ [])) o
+    room_large = rw (← decimal_large n h) R
 
     pub room-digits : Room at (decimal (n / 10)) o
-    room-digits = room-first (decimal (n / 10)) (digit (n % 10) ∷ []) room-large
+    room-digits = room-first (decimal (n / 10)) (digit (n % 10) ∷ []) room_large
 
     module _ {m : ℕ} {k : List ℕ} (A : Appended at (decimal (n / 10)) o m k) where
       pub room-last : m < length k
-      room-last = let r = room_next (decimal (n / 10)) (digit (n % 10) ∷ []) room-large A in omega (arith, r.fits)
+      room-last = let r = room-next (decimal (n / 10)) (digit (n % 10) ∷ []) room_large A in omega (arith, r.fits)
 
       pub last-digit : Appended at (decimal n) o (m + 1) (set k m (digit (n % 10)))
-      last-digit = rw (decimal-large n h) (appended-two (decimal (n / 10)) (digit (n % 10) ∷ []) room-large A
+      last-digit = rw (decimal_large n h) (appended_two (decimal (n / 10)) (digit (n % 10) ∷ []) room_large A
           (one_byte k m (digit (n % 10)) room-last))
 
 -- a number of at most k + 1 digits
@@ -82,38 +82,38 @@ decimal-short (suc k) n h = go (ltb n 10) refl (decimal-short k (n / 10))
     go true e short = omega (arith, ap length (decimal-small n (ltb-true n 10 e)))
     go false e short =
         let l = short ((div-lt_iff_lt-mul {k = 10} {x = n} {y = 10 ^ suc k} (omega arith)).1 (omega (arith, pow-suc 10 (suc k)))) in
-        omega (arith, ap length (decimal-large n (ltb-false n 10 e)), length-append (decimal (n / 10)) (digit (n % 10) ∷ []))
+        omega (arith, ap length (decimal_large n (ltb-false n 10 e)), length-append (decimal (n / 10)) (digit (n % 10) ∷ []))
 
 -- ---- what is written is read back: the number of decimal digits, after n
 unfoldable pub number_of : (n : ℕ) (digits : List ℕ) → ℕ
 number_of n [] = n
 number_of n (d ∷ s) = number_of (10 * n + (d - 48)) s
 
-numberOf-append : (n : ℕ) (s t : List ℕ) → number_of n (s ++ t) ≡ number_of (number_of n s) t
+number_of-append : (n : ℕ) (s t : List ℕ) → number_of n (s ++ t) ≡ number_of (number_of n s) t
 unfolding number_of
-numberOf-append n [] t = refl
-numberOf-append n (d ∷ s) t = numberOf-append (10 * n + (d - 48)) s t
+number_of-append n [] t = refl
+number_of-append n (d ∷ s) t = number_of-append (10 * n + (d - 48)) s t
 
-digits-back : (k n : ℕ) → n < k → number_of 0 (digits k n) ≡ n
+digits_back : (k n : ℕ) → n < k → number_of 0 (digits k n) ≡ n
 unfolding number_of
-digits-back zero n h = absurd (not-suc-le-zero h)
-digits-back (suc k) n h = go (ltb n 10) refl (digits-back k (n / 10))
+digits_back zero n h = absurd (not-suc-le-zero h)
+digits_back (suc k) n h = go (ltb n 10) refl (digits_back k (n / 10))
   where
     go : (t : Bool) → ltb n 10 ≡ t → (n / 10 < k → number_of 0 (digits k (n / 10)) ≡ n / 10) → number_of 0 (digits (suc k) n) ≡ n
     go true e back = ap (number_of 0) (digits-small k n (ltb-true n 10 e)) ∙ omega arith
     go false e back =
         let s = ltb-false n 10 e in
-        ap (number_of 0) (digits-large k n s)
-        ∙ numberOf-append 0 (digits k (n / 10)) (digit (n % 10) ∷ [])
+        ap (number_of 0) (digits_large k n s)
+        ∙ number_of-append 0 (digits k (n / 10)) (digit (n % 10) ∷ [])
         ∙ omega (arith, back (tenth n k s h), div-add-mod n 10)
 
-pub decimal-back : (n : ℕ) → number_of 0 (decimal n) ≡ n
+pub decimal_back : (n : ℕ) → number_of 0 (decimal n) ≡ n
 unfolding decimal
-decimal-back n = digits-back (suc n) n (omega arith)
+decimal_back n = digits_back (suc n) n (omega arith)
 
 -- and a signed one
-unfoldable pub integerOf : List ℕ → ℤ
-integerOf s = pick (eqb (get_or s 0 0) 45) (neg_ℤ (pos (number_of 0 (drop 1 s)))) (pos (number_of 0 s))
+unfoldable pub integer_of : List ℕ → ℤ
+integer_of s = pick (eqb (get_or s 0 0) 45) (neg_ℤ (pos (number_of 0 (drop 1 s)))) (pos (number_of 0 s))
 
 first-digit : (k n : ℕ) → n < k → 48 ≤ get_or (digits k n) 0 0
 first-digit zero n h = absurd (not-suc-le-zero h)
@@ -124,18 +124,18 @@ first-digit (suc k) n h = go (ltb n 10) refl (first-digit k (n / 10))
     go false e first =
         let s = ltb-false n 10 e in
         let f = first (tenth n k s h) in
-        rw (digits-large k n s) (longer (digits k (n / 10)) f)
+        rw (digits_large k n s) (longer (digits k (n / 10)) f)
       where
         longer : (d : List ℕ) → 48 ≤ get_or d 0 0 → 48 ≤ get_or (d ++ (digit (n % 10) ∷ [])) 0 0
         longer [] f = omega arith
         longer (x ∷ d) f = f
 
-pub integer-back : (z : ℤ) → integerOf (integer z) ≡ z
-unfolding integerOf integer decimal
-integer-back (pos n) =
+pub integer_back : (z : ℤ) → integer_of (integer z) ≡ z
+unfolding integer_of integer decimal
+integer_back (pos n) =
     let f = first-digit (suc n) n (omega arith) in
-    sym (pick-false _ _ (ne_eqb (get_or (digits (suc n) n) 0 0) 45 (λ e. omega (arith, f, e))) (ap pos (sym (digits-back (suc n) n (omega arith)))))
-integer-back (negsuc n) = sym (pick_true _ _ refl (ap (λ (m : ℕ). neg_ℤ (pos m)) (sym (digits-back (suc (suc n)) (suc n) (omega arith)))))
+    sym (pick_false _ _ (ne_eqb (get_or (digits (suc n) n) 0 0) 45 (λ e. omega (arith, f, e))) (ap pos (sym (digits_back (suc n) n (omega arith)))))
+integer_back (negsuc n) = sym (pick_true _ _ refl (ap (λ (m : ℕ). neg_ℤ (pos m)) (sym (digits_back (suc (suc n)) (suc n) (omega arith)))))
 
 -- ---- signed numbers
 pub integer-from : (z : ℤ) → pos 0 ≤ℤ z → (z ≡ pos (nat_abs z)) × (integer z ≡ decimal (nat_abs z))
@@ -160,38 +160,38 @@ module _ {at : ℕ} {z : ℤ} {o : List ℕ} (R : Room at (integer z) o) (h : z 
   room-size = omega (arith, room-signed.fits, length-append (45 ∷ []) (decimal (mag z + 1)))
 
   pub signed-written : {r : ℕ} {l : List ℕ} → Appended (at + 1) (decimal (mag z + 1)) (set o at 45) r l → Appended at (integer z) o r l
-  signed-written A = rw (integer-below z h) (appended-two (45 ∷ []) (decimal (mag z + 1)) room-signed (one_byte o at 45 room-sign) A)
+  signed-written A = rw (integer-below z h) (appended_two (45 ∷ []) (decimal (mag z + 1)) room-signed (one_byte o at 45 room-sign) A)
 
 -- ---- the words' lines: the loop that writes them, at its start and in a turn
 module _ (b : Block) (x : List ℤ) where
   abbrev line : ℕ → List ℕ
   line i = word_line i (word b i).key (time x i)
 
-  lines_next : (i : ℕ) → wordLines (i + 1) b x ≡ wordLines i b x ++ line i
-  unfolding wordLines
-  lines_next i = ap (λ (n : ℕ). wordLines n b x) (add-one i)
+  lines_next : (i : ℕ) → word_lines (i + 1) b x ≡ word_lines i b x ++ line i
+  unfolding word_lines
+  lines_next i = ap (λ (n : ℕ). word_lines n b x) (add-one i)
 
-  lines-le : (d i : ℕ) → length (wordLines i b x) ≤ length (wordLines (d + i) b x)
-  unfolding wordLines
-  lines-le zero i = let z : 0 + i ≡ i = omega arith in rw z (le_refl _)
-  lines-le (suc d) i =
+  lines_le : (d i : ℕ) → length (word_lines i b x) ≤ length (word_lines (d + i) b x)
+  unfolding word_lines
+  lines_le zero i = let z : 0 + i ≡ i = omega arith in rw z (le_refl _)
+  lines_le (suc d) i =
       let z : suc d + i ≡ suc (d + i) = omega arith in
-      rw z (omega (arith, lines-le d i, length-append (wordLines (d + i) b x) (line (d + i))))
+      rw z (omega (arith, lines_le d i, length-append (word_lines (d + i) b x) (line (d + i))))
 
-  pub lines_none : (at : ℕ) (o : List ℕ) → Appended at (wordLines 0 b x) o at o
-  unfolding wordLines
-  lines_none at o = appended-none at o
+  pub lines_none : (at : ℕ) (o : List ℕ) → Appended at (word_lines 0 b x) o at o
+  unfolding word_lines
+  lines_none at o = appended_none at o
 
-  module _ {at i n : ℕ} {o : List ℕ} (R : Room at (wordLines n b x) o) (h : i < n) where
-    room-lines : Room at (wordLines i b x ++ line i) o
-    room-lines =
+  module _ {at i n : ℕ} {o : List ℕ} (R : Room at (word_lines n b x) o) (h : i < n) where
+    room_lines : Room at (word_lines i b x ++ line i) o
+    room_lines =
         let z : n - (i + 1) + (i + 1) ≡ n = omega arith in
-        let l : length (wordLines (i + 1) b x) ≤ length (wordLines n b x) = rw z at (lines-le (n - (i + 1)) (i + 1)) in
+        let l : length (word_lines (i + 1) b x) ≤ length (word_lines n b x) = rw z at (lines_le (n - (i + 1)) (i + 1)) in
         record { fits = omega (arith, R.fits, ap length (lines_next i)) }
 
-    module _ {m : ℕ} {k : List ℕ} (A : Appended at (wordLines i b x) o m k) where
+    module _ {m : ℕ} {k : List ℕ} (A : Appended at (word_lines i b x) o m k) where
       pub room-line : Room m (line i) k
-      room-line = room_next (wordLines i b x) (line i) room-lines A
+      room-line = room-next (word_lines i b x) (line i) room_lines A
 
-      pub lines-turn : {r : ℕ} {l : List ℕ} → Appended m (line i) k r l → Appended at (wordLines (i + 1) b x) o r l
-      lines-turn B = rw (lines_next i) (appended-two (wordLines i b x) (line i) room-lines A B)
+      pub lines_turn : {r : ℕ} {l : List ℕ} → Appended m (line i) k r l → Appended at (word_lines (i + 1) b x) o r l
+      lines_turn B = rw (lines_next i) (appended_two (word_lines i b x) (line i) room_lines A B)

@@ -36,20 +36,20 @@ unfoldable pub heading : List ℕ
 heading = 119 ∷ 111 ∷ 114 ∷ 100 ∷ 32 ∷ 107 ∷ 101 ∷ 121 ∷ 32 ∷ 97 ∷ 117 ∷ 100 ∷ 105 ∷ 111 ∷ 10 ∷ []
 
 -- `moves `, ` cap `, `gap `, `rounds `, `refused `
-unfoldable pub movesWord : List ℕ
-movesWord = 109 ∷ 111 ∷ 118 ∷ 101 ∷ 115 ∷ 32 ∷ []
+unfoldable pub moves_word : List ℕ
+moves_word = 109 ∷ 111 ∷ 118 ∷ 101 ∷ 115 ∷ 32 ∷ []
 
-unfoldable pub capWord : List ℕ
-capWord = 32 ∷ 99 ∷ 97 ∷ 112 ∷ 32 ∷ []
+unfoldable pub cap_word : List ℕ
+cap_word = 32 ∷ 99 ∷ 97 ∷ 112 ∷ 32 ∷ []
 
-unfoldable pub gapWord : List ℕ
-gapWord = 103 ∷ 97 ∷ 112 ∷ 32 ∷ []
+unfoldable pub gap_word : List ℕ
+gap_word = 103 ∷ 97 ∷ 112 ∷ 32 ∷ []
 
-unfoldable pub roundsWord : List ℕ
-roundsWord = 114 ∷ 111 ∷ 117 ∷ 110 ∷ 100 ∷ 115 ∷ 32 ∷ []
+unfoldable pub rounds_word : List ℕ
+rounds_word = 114 ∷ 111 ∷ 117 ∷ 110 ∷ 100 ∷ 115 ∷ 32 ∷ []
 
-unfoldable pub refusedWord : List ℕ
-refusedWord = 114 ∷ 101 ∷ 102 ∷ 117 ∷ 115 ∷ 101 ∷ 100 ∷ 32 ∷ []
+unfoldable pub refused_word : List ℕ
+refused_word = 114 ∷ 101 ∷ 102 ∷ 117 ∷ 115 ∷ 101 ∷ 100 ∷ 32 ∷ []
 
 -- ---- the lines
 -- one piece after the other
@@ -62,32 +62,32 @@ unfoldable pub word_line : (i key : ℕ) (time : ℤ) → List ℕ
 word_line i key t = joined (decimal i ∷ space ∷ decimal key ∷ space ∷ integer t ∷ newline ∷ [])
 
 -- of the first n words
-unfoldable pub wordLines : (n : ℕ) → Block → (times : List ℤ) → List ℕ
-wordLines zero b x = []
-wordLines (suc n) b x = wordLines n b x ++ word_line n (word b n).key (time x n)
+unfoldable pub word_lines : (n : ℕ) → Block → (times : List ℤ) → List ℕ
+word_lines zero b x = []
+word_lines (suc n) b x = word_lines n b x ++ word_line n (word b n).key (time x n)
 
 -- "exact moves and cap"
-unfoldable pub movesLine : (moves : ℤ) (cap : ℕ) → List ℕ
-movesLine m cap = joined (movesWord ∷ integer m ∷ capWord ∷ decimal cap ∷ newline ∷ [])
+unfoldable pub moves_line : (moves : ℤ) (cap : ℕ) → List ℕ
+moves_line m cap = joined (moves_word ∷ integer m ∷ cap_word ∷ decimal cap ∷ newline ∷ [])
 
 -- "gap"
-unfoldable pub gapLine : ℤ → List ℕ
-gapLine g = joined (gapWord ∷ integer g ∷ newline ∷ [])
+unfoldable pub gap_line : ℤ → List ℕ
+gap_line g = joined (gap_word ∷ integer g ∷ newline ∷ [])
 
 -- a word and a number
-unfoldable pub countLine : (name : List ℕ) (n : ℕ) → List ℕ
-countLine name n = joined (name ∷ decimal n ∷ newline ∷ [])
+unfoldable pub count_line : (name : List ℕ) (n : ℕ) → List ℕ
+count_line name n = joined (name ∷ decimal n ∷ newline ∷ [])
 
 -- ---- the listing of a plan with its gap and passes, and of a refusal
 unfoldable pub plan : Block → (times : List ℤ) (gap : ℤ) (passes : ℕ) → List ℕ
 plan b x gap passes =
     joined
     (heading
-    ∷ wordLines (length b.words) b x
-    ∷ movesLine (moves b x) b.cap
-    ∷ gapLine gap
-    ∷ countLine roundsWord passes
+    ∷ word_lines (length b.words) b x
+    ∷ moves_line (moves b x) b.cap
+    ∷ gap_line gap
+    ∷ count_line rounds_word passes
     ∷ [])
 
 unfoldable pub refused : ℕ → List ℕ
-refused number = countLine refusedWord number
+refused number = count_line refused_word number

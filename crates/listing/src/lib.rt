@@ -2,7 +2,7 @@
 ghost use Rattle.std.specs.Prelude.{length, ◌≤◌};
 ghost use Rattle.format.specs.Structs.{block_of};
 ghost use Rattle.exact.specs.Planned.{Planned};
-ghost use Rattle.listing.specs.Listing.{decimal, integer, word_line, wordLines, movesLine, gapLine, countLine, plan, refused};
+ghost use Rattle.listing.specs.Listing.{decimal, integer, word_line, word_lines, moves_line, gap_line, count_line, plan, refused};
 ghost use Rattle.listing.specs.Appended.{Room, Appended, Listed};
 ghost use Rattle.listing.specs.Longest.{longest};
 
@@ -63,8 +63,8 @@ fn put_word(out: &mut [u8], at: usize, number: usize, key: u64, time: i64) -> us
 // A line for each word.
 fn put_words(out: &mut [u8], at: usize, b: Block, times: &[i32]) -> usize
     requires planned { Planned b times.now }
-    requires room { Room at (wordLines b.words (block_of b) times.now) out.old }
-    ensures { Appended at (wordLines b.words (block_of b) times.now) out.old result out.new }
+    requires room { Room at (word_lines b.words (block_of b) times.now) out.old }
+    ensures { Appended at (word_lines b.words (block_of b) times.now) out.old result out.new }
 {
     let mut end = at;
     let n = b.words;
@@ -77,8 +77,8 @@ fn put_words(out: &mut [u8], at: usize, b: Block, times: &[i32]) -> usize
 
 // Exact moves and cap.
 fn put_moves(out: &mut [u8], at: usize, m: i64, cap: u64) -> usize
-    requires { Room at (movesLine m cap) out.old }
-    ensures { Appended at (movesLine m cap) out.old result out.new }
+    requires { Room at (moves_line m cap) out.old }
+    ensures { Appended at (moves_line m cap) out.old result out.new }
 {
     let mut end = put_text(out, at, b"moves ");
     end = put_integer(out, end, m);
@@ -89,8 +89,8 @@ fn put_moves(out: &mut [u8], at: usize, m: i64, cap: u64) -> usize
 
 // The gap.
 fn put_gap(out: &mut [u8], at: usize, gap: i64) -> usize
-    requires { Room at (gapLine gap) out.old }
-    ensures { Appended at (gapLine gap) out.old result out.new }
+    requires { Room at (gap_line gap) out.old }
+    ensures { Appended at (gap_line gap) out.old result out.new }
 {
     let mut end = put_text(out, at, b"gap ");
     end = put_integer(out, end, gap);
@@ -99,8 +99,8 @@ fn put_gap(out: &mut [u8], at: usize, gap: i64) -> usize
 
 // A word and a number.
 fn put_count(out: &mut [u8], at: usize, name: &[u8], n: u64) -> usize
-    requires { Room at (countLine name.now n) out.old }
-    ensures { Appended at (countLine name.now n) out.old result out.new }
+    requires { Room at (count_line name.now n) out.old }
+    ensures { Appended at (count_line name.now n) out.old result out.new }
 {
     let mut end = put_text(out, at, name);
     end = put_decimal(out, end, n);

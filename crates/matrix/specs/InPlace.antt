@@ -2,26 +2,26 @@
 use Rattle.std.specs.Prelude.{◌≡◌, refl, List, ℕ, ◌*◌, length, Float}
 use Rattle.std.proofs.Common.{sym, ◌∙◌, arith}
 use Rattle.folds.specs.Fold.{over}
-use Rattle.folds.specs.Tab.{over-again}
+use Rattle.folds.specs.Tab.{over_again}
 use Rattle.vector.specs.Vector.{copy}
-use Rattle.vector.specs.Laws.{same_over, same_copy}
-use Rattle.matrix.specs.Matrix.{rowsDivided, columnsDivided}
-use Rattle.matrix.specs.Laws.{length-rowsDivided, length-columnsDivided, rowsDivided-same, columnsDivided-same}
+use Rattle.vector.specs.Laws.{same-over, same-copy}
+use Rattle.matrix.specs.Matrix.{rows_divided, columns_divided}
+use Rattle.matrix.specs.Laws.{length-rows_divided, length-columns_divided, rows_divided-same, columns_divided-same}
 
 module _ (n m : ℕ) (a by : List Float) where
-  pub rowsDivided-copy : rowsDivided n m (copy (n * m) a) by ≡ rowsDivided n m a by
-  rowsDivided-copy = rowsDivided-same n m (copy (n * m) a) a (same_copy (n * m) a) by by (λ k h. refl)
+  pub rows_divided-copy : rows_divided n m (copy (n * m) a) by ≡ rows_divided n m a by
+  rows_divided-copy = rows_divided-same n m (copy (n * m) a) a (same-copy (n * m) a) by by (λ k h. refl)
 
-  pub columnsDivided-copy : columnsDivided n m (copy (n * m) a) by ≡ columnsDivided n m a by
-  columnsDivided-copy = columnsDivided-same n m (copy (n * m) a) a (same_copy (n * m) a) by by (λ k h. refl)
+  pub columns_divided-copy : columns_divided n m (copy (n * m) a) by ≡ columns_divided n m a by
+  columns_divided-copy = columns_divided-same n m (copy (n * m) a) a (same-copy (n * m) a) by by (λ k h. refl)
 
 module _ {r s : List Float} (n m : ℕ) (l by o : List Float) (h : length l ≡ n * m) (e : r ≡ over l o) where
-  pub rows-divided : s ≡ over (rowsDivided n m r by) r → s ≡ over (rowsDivided n m l by) o
+  pub rows-divided : s ≡ over (rows_divided n m r by) r → s ≡ over (rows_divided n m l by) o
   rows-divided f =
-      let p = rowsDivided-same n m (over l o) l (same_over (n * m) l o (omega arith)) by by (λ k q. refl) in
-      f ∙ rw (e, p, over-again (rowsDivided n m l by) l o (h ∙ sym (length-rowsDivided n m l by)))
+      let p = rows_divided-same n m (over l o) l (same-over (n * m) l o (omega arith)) by by (λ k q. refl) in
+      f ∙ rw (e, p, over_again (rows_divided n m l by) l o (h ∙ sym (length-rows_divided n m l by)))
 
-  pub columns-divided : s ≡ over (columnsDivided n m r by) r → s ≡ over (columnsDivided n m l by) o
+  pub columns-divided : s ≡ over (columns_divided n m r by) r → s ≡ over (columns_divided n m l by) o
   columns-divided f =
-      let p = columnsDivided-same n m (over l o) l (same_over (n * m) l o (omega arith)) by by (λ k q. refl) in
-      f ∙ rw (e, p, over-again (columnsDivided n m l by) l o (h ∙ sym (length-columnsDivided n m l by)))
+      let p = columns_divided-same n m (over l o) l (same-over (n * m) l o (omega arith)) by by (λ k q. refl) in
+      f ∙ rw (e, p, over_again (columns_divided n m l by) l o (h ∙ sym (length-columns_divided n m l by)))

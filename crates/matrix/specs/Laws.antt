@@ -2,125 +2,125 @@
 use Rattle.std.specs.Prelude.{◌≡◌, refl, List, ℕ, ◌*◌, ◌<◌, length, get_or, Float}
 use Rattle.std.proofs.Common.{sym, ◌∙◌, eq-eqb, ne_eqb}
 use Rattle.std.specs.Float.Ieee.{nan}
-use Rattle.folds.specs.Fold.{fold, tabM, over, pick}
-use Rattle.folds.specs.Tab.{length-tab, length-tabM, getD-tab, getD-tabM, tabM-same, over-all}
+use Rattle.folds.specs.Fold.{fold, tab_m, over, pick}
+use Rattle.folds.specs.Tab.{length-tab, length-tab_m, get_d_tab, get_d_tab_m, tab_m-same, over-all}
 use Rattle.arith.specs.Float.{fdiv, f0, f1, at}
-use Rattle.arith.specs.Neutral.{sum_same}
+use Rattle.arith.specs.Neutral.{sum-same}
 use Rattle.vector.specs.Laws.{Same}
 use Rattle.columns.specs.Columns.{cell}
-use Rattle.columns.specs.Laws.{cell-tabM, cell_same}
-use Rattle.matrix.specs.Matrix.{rowDot, mulVec, columnDot, trMulVec, cellDot, mul, columnsDot, trMul, transpose}
-use Rattle.matrix.specs.Matrix.{unit, identity, index, selectRows, selectColumns, rowsDivided, columnsDivided}
+use Rattle.columns.specs.Laws.{cell-tab_m, cell-same}
+use Rattle.matrix.specs.Matrix.{row_dot, mul_vec, column_dot, tr_mul_vec, cell_dot, mul, columns_dot, tr_mul, transpose}
+use Rattle.matrix.specs.Matrix.{unit, identity, index, select_rows, select_columns, rows_divided, columns_divided}
 
 -- ---- lengths
 module _ (n : ℕ) where
   pub length-identity : length (identity n) ≡ n * n
   unfolding identity
-  length-identity = length-tabM n n unit
+  length-identity = length-tab_m n n unit
 
-  pub length-selectColumns : (a : List Float) (k : ℕ) (l : List ℕ) → length (selectColumns n a k l) ≡ n * k
-  unfolding selectColumns
-  length-selectColumns a k l = length-tabM n k _
+  pub length-select_columns : (a : List Float) (k : ℕ) (l : List ℕ) → length (select_columns n a k l) ≡ n * k
+  unfolding select_columns
+  length-select_columns a k l = length-tab_m n k _
 
 module _ (n m : ℕ) where
-  pub length-mulVec : (a x : List Float) → length (mulVec n m a x) ≡ n
-  unfolding mulVec
-  length-mulVec a x = length-tab n _
+  pub length-mul_vec : (a x : List Float) → length (mul_vec n m a x) ≡ n
+  unfolding mul_vec
+  length-mul_vec a x = length-tab n _
 
-  pub length-trMulVec : (a x : List Float) → length (trMulVec n m a x) ≡ m
-  unfolding trMulVec
-  length-trMulVec a x = length-tab m _
+  pub length-tr_mul_vec : (a x : List Float) → length (tr_mul_vec n m a x) ≡ m
+  unfolding tr_mul_vec
+  length-tr_mul_vec a x = length-tab m _
 
   pub length-mul : (p : ℕ) (a b : List Float) → length (mul n p m a b) ≡ n * m
   unfolding mul
-  length-mul p a b = length-tabM n m _
+  length-mul p a b = length-tab_m n m _
 
-  pub length-trMul : (p : ℕ) (a b : List Float) → length (trMul n p m a b) ≡ p * m
-  unfolding trMul
-  length-trMul p a b = length-tabM p m _
+  pub length-tr_mul : (p : ℕ) (a b : List Float) → length (tr_mul n p m a b) ≡ p * m
+  unfolding tr_mul
+  length-tr_mul p a b = length-tab_m p m _
 
   pub length-transpose : (a : List Float) → length (transpose n m a) ≡ m * n
   unfolding transpose
-  length-transpose a = length-tabM m n _
+  length-transpose a = length-tab_m m n _
 
-  pub length-selectRows : (a : List Float) (k : ℕ) (l : List ℕ) → length (selectRows n m a k l) ≡ k * m
-  unfolding selectRows
-  length-selectRows a k l = length-tabM k m _
+  pub length-select_rows : (a : List Float) (k : ℕ) (l : List ℕ) → length (select_rows n m a k l) ≡ k * m
+  unfolding select_rows
+  length-select_rows a k l = length-tab_m k m _
 
-  pub length-rowsDivided : (a by : List Float) → length (rowsDivided n m a by) ≡ n * m
-  unfolding rowsDivided
-  length-rowsDivided a by = length-tabM n m _
+  pub length-rows_divided : (a by : List Float) → length (rows_divided n m a by) ≡ n * m
+  unfolding rows_divided
+  length-rows_divided a by = length-tab_m n m _
 
-  pub length-columnsDivided : (a by : List Float) → length (columnsDivided n m a by) ≡ n * m
-  unfolding columnsDivided
-  length-columnsDivided a by = length-tabM n m _
+  pub length-columns_divided : (a by : List Float) → length (columns_divided n m a by) ≡ n * m
+  unfolding columns_divided
+  length-columns_divided a by = length-tab_m n m _
 
 -- ---- entries
 module _ (n m i j : ℕ) (p : i < n) (q : j < m) where
-  pub mul_at : (k : ℕ) (a b : List Float) → cell (mul n k m a b) n i j ≡ cellDot n k a b i j
+  pub mul-at : (k : ℕ) (a b : List Float) → cell (mul n k m a b) n i j ≡ cell_dot n k a b i j
   unfolding mul
-  mul_at k a b = cell-tabM n m i j p q (cellDot n k a b)
+  mul-at k a b = cell-tab_m n m i j p q (cell_dot n k a b)
 
   -- here n and m are the columns of a and of b
-  pub trMul-at : (k : ℕ) (a b : List Float) → cell (trMul k n m a b) n i j ≡ columnsDot k a b i j
-  unfolding trMul
-  trMul-at k a b = cell-tabM n m i j p q (columnsDot k a b)
+  pub tr_mul-at : (k : ℕ) (a b : List Float) → cell (tr_mul k n m a b) n i j ≡ columns_dot k a b i j
+  unfolding tr_mul
+  tr_mul-at k a b = cell-tab_m n m i j p q (columns_dot k a b)
 
   pub transpose-at : (a : List Float) → cell (transpose m n a) n i j ≡ cell a m j i
   unfolding transpose
-  transpose-at a = cell-tabM n m i j p q (λ i j. cell a m j i)
+  transpose-at a = cell-tab_m n m i j p q (λ i j. cell a m j i)
 
-  pub selectRows-at : (k : ℕ) (a : List Float) (l : List ℕ) → cell (selectRows k m a n l) n i j ≡ cell a k (index l i) j
-  unfolding selectRows
-  selectRows-at k a l = cell-tabM n m i j p q (λ i j. cell a k (index l i) j)
+  pub select_rows-at : (k : ℕ) (a : List Float) (l : List ℕ) → cell (select_rows k m a n l) n i j ≡ cell a k (index l i) j
+  unfolding select_rows
+  select_rows-at k a l = cell-tab_m n m i j p q (λ i j. cell a k (index l i) j)
 
-  pub selectColumns-at : (a : List Float) (l : List ℕ) → cell (selectColumns n a m l) n i j ≡ cell a n i (index l j)
-  unfolding selectColumns
-  selectColumns-at a l = cell-tabM n m i j p q (λ i j. cell a n i (index l j))
+  pub select_columns-at : (a : List Float) (l : List ℕ) → cell (select_columns n a m l) n i j ≡ cell a n i (index l j)
+  unfolding select_columns
+  select_columns-at a l = cell-tab_m n m i j p q (λ i j. cell a n i (index l j))
 
-  pub rowsDivided-at : (a by : List Float) → cell (rowsDivided n m a by) n i j ≡ fdiv (cell a n i j) (at by i)
-  unfolding rowsDivided
-  rowsDivided-at a by = cell-tabM n m i j p q (λ i j. fdiv (cell a n i j) (at by i))
+  pub rows_divided-at : (a by : List Float) → cell (rows_divided n m a by) n i j ≡ fdiv (cell a n i j) (at by i)
+  unfolding rows_divided
+  rows_divided-at a by = cell-tab_m n m i j p q (λ i j. fdiv (cell a n i j) (at by i))
 
-  pub columnsDivided-at : (a by : List Float) → cell (columnsDivided n m a by) n i j ≡ fdiv (cell a n i j) (at by j)
-  unfolding columnsDivided
-  columnsDivided-at a by = cell-tabM n m i j p q (λ i j. fdiv (cell a n i j) (at by j))
+  pub columns_divided-at : (a by : List Float) → cell (columns_divided n m a by) n i j ≡ fdiv (cell a n i j) (at by j)
+  unfolding columns_divided
+  columns_divided-at a by = cell-tab_m n m i j p q (λ i j. fdiv (cell a n i j) (at by j))
 
 pub unit-same : (i : ℕ) → unit i i ≡ f1
 unfolding unit pick
 unit-same i = rw (eq-eqb i i refl)
 
-pub unit-other : (i j : ℕ) → (i ≡ j → ⊥) → unit i j ≡ f0
+pub unit_other : (i j : ℕ) → (i ≡ j → ⊥) → unit i j ≡ f0
 unfolding unit pick
-unit-other i j h = rw (ne_eqb i j h)
+unit_other i j h = rw (ne_eqb i j h)
 
 pub identity-at : (n i j : ℕ) → i < n → j < n → cell (identity n) n i j ≡ unit i j
 unfolding identity
-identity-at n i j p q = getD-tabM nan n n i j unit p q
+identity-at n i j p q = get_d_tab_m nan n n i j unit p q
 
 module _ (n m : ℕ) where
-  pub mulVec-at : (a x : List Float) (i : ℕ) → i < n → at (mulVec n m a x) i ≡ rowDot n m a i x
-  unfolding mulVec
-  mulVec-at a x i h = getD-tab nan n i _ h
+  pub mul_vec-at : (a x : List Float) (i : ℕ) → i < n → at (mul_vec n m a x) i ≡ row_dot n m a i x
+  unfolding mul_vec
+  mul_vec-at a x i h = get_d_tab nan n i _ h
 
-  pub trMulVec-at : (a x : List Float) (j : ℕ) → j < m → at (trMulVec n m a x) j ≡ columnDot n a j x
-  unfolding trMulVec
-  trMulVec-at a x j h = getD-tab nan m j _ h
+  pub tr_mul_vec-at : (a x : List Float) (j : ℕ) → j < m → at (tr_mul_vec n m a x) j ≡ column_dot n a j x
+  unfolding tr_mul_vec
+  tr_mul_vec-at a x j h = get_d_tab nan m j _ h
 
 pub over-identity : (n : ℕ) (o : List Float) → length o ≡ n * n → over (identity n) o ≡ identity n
 over-identity n o e = over-all (identity n) o (length-identity n ∙ sym e)
 
 -- ---- only the elements of the matrix count
 module _ (n m : ℕ) (a b : List Float) (e : Same (n * m) a b) where
-  pub rowsDivided-same : (x y : List Float) → Same n x y → rowsDivided n m a x ≡ rowsDivided n m b y
-  unfolding rowsDivided
-  rowsDivided-same x y f = tabM-same n m _ _ (λ i j p q. rw (cell_same n m i j p q a b e, f i p))
+  pub rows_divided-same : (x y : List Float) → Same n x y → rows_divided n m a x ≡ rows_divided n m b y
+  unfolding rows_divided
+  rows_divided-same x y f = tab_m-same n m _ _ (λ i j p q. rw (cell-same n m i j p q a b e, f i p))
 
-  pub columnsDivided-same : (x y : List Float) → Same m x y → columnsDivided n m a x ≡ columnsDivided n m b y
-  unfolding columnsDivided
-  columnsDivided-same x y f = tabM-same n m _ _ (λ i j p q. rw (cell_same n m i j p q a b e, f j q))
+  pub columns_divided-same : (x y : List Float) → Same m x y → columns_divided n m a x ≡ columns_divided n m b y
+  unfolding columns_divided
+  columns_divided-same x y f = tab_m-same n m _ _ (λ i j p q. rw (cell-same n m i j p q a b e, f j q))
 
   -- a is n by m: a times c, m by k
   pub mul-same : (k : ℕ) (c d : List Float) → Same (m * k) c d → mul n m k a c ≡ mul n m k b d
-  unfolding mul cellDot
-  mul-same k c d f = tabM-same n k _ _ (λ i j p q. sum_same m _ _ (λ t h. rw (cell_same n m i t p h a b e, cell_same m k t j h q c d f)))
+  unfolding mul cell_dot
+  mul-same k c d f = tab_m-same n k _ _ (λ i j p q. sum-same m _ _ (λ t h. rw (cell-same n m i t p h a b e, cell-same m k t j h q c d f)))

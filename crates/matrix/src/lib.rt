@@ -20,7 +20,7 @@ pub fn trace(a: &[f64], n: usize) -> f64
 // Row i of a times x.
 fn row_dot(a: &[f64], n: usize, m: usize, i: usize, x: &[f64]) -> f64
     requires { (n * m ≤ length a.now) × (i < n) × (m ≤ length x.now) }
-    ensures { result ≡ Matrix.rowDot n m a.now i x.now }
+    ensures { result ≡ Matrix.row_dot n m a.now i x.now }
 {
     let mut s = 0.0;
     for j in 0..m {
@@ -32,7 +32,7 @@ fn row_dot(a: &[f64], n: usize, m: usize, i: usize, x: &[f64]) -> f64
 // y = a x.
 pub fn mul_vec(a: &[f64], n: usize, m: usize, x: &[f64], y: &mut [f64])
     requires { (n * m ≤ length a.now) × (m ≤ length x.now) × (n ≤ length y.old) }
-    ensures { y.new ≡ over (Matrix.mulVec n m a.now x.now) y.old }
+    ensures { y.new ≡ over (Matrix.mul_vec n m a.now x.now) y.old }
 {
     for i in 0..n {
         y[i] = row_dot(a, n, m, i, x);
@@ -42,7 +42,7 @@ pub fn mul_vec(a: &[f64], n: usize, m: usize, x: &[f64], y: &mut [f64])
 // Column j of a times x.
 fn column_dot(a: &[f64], n: usize, m: usize, j: usize, x: &[f64]) -> f64
     requires { (n * m ≤ length a.now) × (j < m) × (n ≤ length x.now) }
-    ensures { result ≡ Matrix.columnDot n a.now j x.now }
+    ensures { result ≡ Matrix.column_dot n a.now j x.now }
 {
     let mut s = 0.0;
     for i in 0..n {
@@ -54,7 +54,7 @@ fn column_dot(a: &[f64], n: usize, m: usize, j: usize, x: &[f64]) -> f64
 // y = aᵀ x.
 pub fn tr_mul_vec(a: &[f64], n: usize, m: usize, x: &[f64], y: &mut [f64])
     requires { (n * m ≤ length a.now) × (n ≤ length x.now) × (m ≤ length y.old) }
-    ensures { y.new ≡ over (Matrix.trMulVec n m a.now x.now) y.old }
+    ensures { y.new ≡ over (Matrix.tr_mul_vec n m a.now x.now) y.old }
 {
     for j in 0..m {
         y[j] = column_dot(a, n, m, j, x);
@@ -64,7 +64,7 @@ pub fn tr_mul_vec(a: &[f64], n: usize, m: usize, x: &[f64], y: &mut [f64])
 // Row i of a (n by p) times column j of b (p by m).
 fn cell_dot(a: &[f64], n: usize, p: usize, b: &[f64], m: usize, i: usize, j: usize) -> f64
     requires { (n * p ≤ length a.now) × (p * m ≤ length b.now) × (i < n) × (j < m) }
-    ensures { result ≡ Matrix.cellDot n p a.now b.now i j }
+    ensures { result ≡ Matrix.cell_dot n p a.now b.now i j }
 {
     let mut s = 0.0;
     for k in 0..p {
@@ -75,7 +75,7 @@ fn cell_dot(a: &[f64], n: usize, p: usize, b: &[f64], m: usize, i: usize, j: usi
 
 fn mul_column(a: &[f64], n: usize, p: usize, b: &[f64], m: usize, j: usize, c: &mut [f64])
     requires { (n * p ≤ length a.now) × (p * m ≤ length b.now) × (n * m ≤ length c.old) × (j < m) }
-    ensures { c.new ≡ Columns.putColumn n n j (λ i. Matrix.cellDot n p a.now b.now i j) c.old }
+    ensures { c.new ≡ Columns.put_column n n j (λ i. Matrix.cell_dot n p a.now b.now i j) c.old }
 {
     for i in 0..n {
         let v = cell_dot(a, n, p, b, m, i, j);
@@ -96,7 +96,7 @@ pub fn mul(a: &[f64], n: usize, p: usize, b: &[f64], m: usize, c: &mut [f64])
 // Column i of a (n by p) times column j of b (n by m).
 fn columns_dot(a: &[f64], n: usize, p: usize, b: &[f64], m: usize, i: usize, j: usize) -> f64
     requires { (n * p ≤ length a.now) × (n * m ≤ length b.now) × (i < p) × (j < m) }
-    ensures { result ≡ Matrix.columnsDot n a.now b.now i j }
+    ensures { result ≡ Matrix.columns_dot n a.now b.now i j }
 {
     let mut s = 0.0;
     for k in 0..n {
@@ -107,7 +107,7 @@ fn columns_dot(a: &[f64], n: usize, p: usize, b: &[f64], m: usize, i: usize, j: 
 
 fn tr_mul_column(a: &[f64], n: usize, p: usize, b: &[f64], m: usize, j: usize, c: &mut [f64])
     requires { (n * p ≤ length a.now) × (n * m ≤ length b.now) × (p * m ≤ length c.old) × (j < m) }
-    ensures { c.new ≡ Columns.putColumn p p j (λ i. Matrix.columnsDot n a.now b.now i j) c.old }
+    ensures { c.new ≡ Columns.put_column p p j (λ i. Matrix.columns_dot n a.now b.now i j) c.old }
 {
     for i in 0..p {
         let v = columns_dot(a, n, p, b, m, i, j);
@@ -118,7 +118,7 @@ fn tr_mul_column(a: &[f64], n: usize, p: usize, b: &[f64], m: usize, j: usize, c
 // c = aᵀ b, with a n by p and b n by m.
 pub fn tr_mul(a: &[f64], n: usize, p: usize, b: &[f64], m: usize, c: &mut [f64])
     requires { (n * p ≤ length a.now) × (n * m ≤ length b.now) × (p * m ≤ length c.old) }
-    ensures { c.new ≡ over (Matrix.trMul n p m a.now b.now) c.old }
+    ensures { c.new ≡ over (Matrix.tr_mul n p m a.now b.now) c.old }
 {
     for j in 0..m {
         tr_mul_column(a, n, p, b, m, j, c);
@@ -127,7 +127,7 @@ pub fn tr_mul(a: &[f64], n: usize, p: usize, b: &[f64], m: usize, c: &mut [f64])
 
 fn transpose_column(a: &[f64], n: usize, m: usize, j: usize, b: &mut [f64])
     requires { (n * m ≤ length a.now) × (m * n ≤ length b.old) × (j < n) }
-    ensures { b.new ≡ Columns.putColumn m m j (λ i. Columns.cell a.now n j i) b.old }
+    ensures { b.new ≡ Columns.put_column m m j (λ i. Columns.cell a.now n j i) b.old }
 {
     for i in 0..m {
         let v = columns::get(a, n, m, j, i);
@@ -157,7 +157,7 @@ fn unit(i: usize, j: usize) -> f64
 
 fn identity_column(a: &mut [f64], n: usize, j: usize)
     requires { (n * n ≤ length a.old) × (j < n) }
-    ensures { a.new ≡ Columns.putColumn n n j (λ i. Matrix.unit i j) a.old }
+    ensures { a.new ≡ Columns.put_column n n j (λ i. Matrix.unit i j) a.old }
 {
     for i in 0..n {
         let v = unit(i, j);
@@ -185,7 +185,7 @@ fn select_rows_column(
 )
     requires { (n * m ≤ length a.now) × (k ≤ length list.now) × Below k list.now n × (k * m ≤ length b.old) × (j < m) }
     ensures { b.new ≡
-        Columns.putColumn k k j (λ i. Columns.cell a.now n (Matrix.index list.now i) j) b.old }
+        Columns.put_column k k j (λ i. Columns.cell a.now n (Matrix.index list.now i) j) b.old }
 {
     for i in 0..k {
         let v = columns::get(a, n, m, list[i], j);
@@ -196,7 +196,7 @@ fn select_rows_column(
 // b = the k rows of a (n by m) that list names.
 pub fn select_rows(a: &[f64], n: usize, m: usize, list: &[usize], k: usize, b: &mut [f64])
     requires { (n * m ≤ length a.now) × (k ≤ length list.now) × Below k list.now n × (k * m ≤ length b.old) }
-    ensures { b.new ≡ over (Matrix.selectRows n m a.now k list.now) b.old }
+    ensures { b.new ≡ over (Matrix.select_rows n m a.now k list.now) b.old }
 {
     for j in 0..m {
         select_rows_column(a, n, m, list, k, j, b);
@@ -206,7 +206,7 @@ pub fn select_rows(a: &[f64], n: usize, m: usize, list: &[usize], k: usize, b: &
 // Column j of b = column t of a.
 fn copy_column(a: &[f64], n: usize, m: usize, t: usize, k: usize, j: usize, b: &mut [f64])
     requires { (n * m ≤ length a.now) × (t < m) × (n * k ≤ length b.old) × (j < k) }
-    ensures { b.new ≡ Columns.putColumn n n j (λ i. Columns.cell a.now n i t) b.old }
+    ensures { b.new ≡ Columns.put_column n n j (λ i. Columns.cell a.now n i t) b.old }
 {
     for i in 0..n {
         let v = columns::get(a, n, m, i, t);
@@ -217,7 +217,7 @@ fn copy_column(a: &[f64], n: usize, m: usize, t: usize, k: usize, j: usize, b: &
 // b = the k columns of a (n by m) that list names.
 pub fn select_columns(a: &[f64], n: usize, m: usize, list: &[usize], k: usize, b: &mut [f64])
     requires { (n * m ≤ length a.now) × (k ≤ length list.now) × Below k list.now m × (n * k ≤ length b.old) }
-    ensures { b.new ≡ over (Matrix.selectColumns n a.now k list.now) b.old }
+    ensures { b.new ≡ over (Matrix.select_columns n a.now k list.now) b.old }
 {
     for j in 0..k {
         copy_column(a, n, m, list[j], k, j, b);
@@ -227,7 +227,7 @@ pub fn select_columns(a: &[f64], n: usize, m: usize, list: &[usize], k: usize, b
 fn divide_rows_column(a: &mut [f64], n: usize, m: usize, by: &[f64], j: usize)
     requires { (n * m ≤ length a.old) × (n ≤ length by.now) × (j < m) }
     ensures { a.new ≡
-        Columns.putColumn n n j (λ i. fdiv (Columns.cell a.old n i j) (at by.now i)) a.old }
+        Columns.put_column n n j (λ i. fdiv (Columns.cell a.old n i j) (at by.now i)) a.old }
 {
     for i in 0..n {
         let v = columns::get(&a[..], n, m, i, j);
@@ -238,7 +238,7 @@ fn divide_rows_column(a: &mut [f64], n: usize, m: usize, by: &[f64], j: usize)
 // In place: each row of a (n by m) over its element of by.
 pub fn divide_rows(a: &mut [f64], n: usize, m: usize, by: &[f64])
     requires { (n * m ≤ length a.old) × (n ≤ length by.now) }
-    ensures { a.new ≡ over (Matrix.rowsDivided n m a.old by.now) a.old }
+    ensures { a.new ≡ over (Matrix.rows_divided n m a.old by.now) a.old }
 {
     for j in 0..m {
         divide_rows_column(a, n, m, by, j);
@@ -247,7 +247,7 @@ pub fn divide_rows(a: &mut [f64], n: usize, m: usize, by: &[f64])
 
 fn divide_column(a: &mut [f64], n: usize, m: usize, by: f64, j: usize)
     requires { (n * m ≤ length a.old) × (j < m) }
-    ensures { a.new ≡ Columns.putColumn n n j (λ i. fdiv (Columns.cell a.old n i j) by) a.old }
+    ensures { a.new ≡ Columns.put_column n n j (λ i. fdiv (Columns.cell a.old n i j) by) a.old }
 {
     for i in 0..n {
         let v = columns::get(&a[..], n, m, i, j);
@@ -258,7 +258,7 @@ fn divide_column(a: &mut [f64], n: usize, m: usize, by: f64, j: usize)
 // And each column.
 pub fn divide_columns(a: &mut [f64], n: usize, m: usize, by: &[f64])
     requires { (n * m ≤ length a.old) × (m ≤ length by.now) }
-    ensures { a.new ≡ over (Matrix.columnsDivided n m a.old by.now) a.old }
+    ensures { a.new ≡ over (Matrix.columns_divided n m a.old by.now) a.old }
 {
     for j in 0..m {
         divide_column(a, n, m, by[j], j);

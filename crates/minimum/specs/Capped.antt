@@ -7,18 +7,18 @@ use Rattle.minimum.specs.declared.CappedMinimum as Declared
 -- `Ok(x)`; document 01, 'The reference build': with the multipliers and passes of the accepted solve, and the accepted raise
 pub data Capped : Type 0 where
   optimal : (x multipliers : List Float) (passes : ℕ) (raise : Float) → Capped
-  nonFinite : Capped
+  non_finite : Capped
   singular : Capped
   unbounded : Capped
-  notConverged : Capped
+  not_converged : Capped
 
 unfoldable pub capped : SolveVerdict → (x multipliers : List Float) (passes : ℕ) (raise : Float) → Capped
 capped Optimal x multipliers passes raise = optimal x multipliers passes raise
-capped NonFiniteCovariance x multipliers passes raise = nonFinite
+capped NonFiniteCovariance x multipliers passes raise = non_finite
 capped SingularCovariance x multipliers passes raise = singular
 capped Unbounded x multipliers passes raise = unbounded
-capped NotConverged x multipliers passes raise = notConverged
+capped NotConverged x multipliers passes raise = not_converged
 
 -- of what the code gives back, with n variables and w columns
-unfoldable pub cappedOf : (n w : ℕ) → Declared.CappedMinimum → Capped
-cappedOf n w s = capped s.verdict (take n s.x) (take w s.multipliers) s.passes s.raise
+unfoldable pub capped_of : (n w : ℕ) → Declared.CappedMinimum → Capped
+capped_of n w s = capped s.verdict (take n s.x) (take w s.multipliers) s.passes s.raise

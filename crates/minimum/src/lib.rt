@@ -58,7 +58,7 @@ pub fn refused_capped(verdict: SolveVerdict) -> CappedMinimum
 
 // Whether a pass goes on.
 pub fn goes_on(ending: Ending) -> bool
-    ensures { result ≡ Definition.goesOn ending }
+    ensures { result ≡ Definition.goes_on ending }
 {
     match ending {
         Ending::More => true,
@@ -72,7 +72,7 @@ pub fn goes_on(ending: Ending) -> bool
 
 // The answer of the last pass, where so many were made before it.
 pub fn answered(passed: Passed, made: usize) -> Minimum
-    requires { (Definition.goesOn passed.ending ≡ false) × (made < Definition.budget Sizes.variables) }
+    requires { (Definition.goes_on passed.ending ≡ false) × (made < Definition.budget Sizes.variables) }
     ensures { Definition.Ends passed made result }
 {
     let ending = passed.ending;

@@ -1,11 +1,11 @@
 // qp.rs, `search_multiplier`: the doubling, until `high` is within the limit, and the cuts of the bracket. Neither loop counts: each ends because
 // fewer floats are left. Q is n by n, E is n by m, the rows' a is n by r; at are the kinks' points, slopes their slopes.
 ghost use Rattle.std.specs.Prelude.{◌≡◌, ◌+◌, take};
-ghost use Rattle.minimum.specs.Minimized.{minimizedOf};
+ghost use Rattle.minimum.specs.Minimized.{minimized_of};
 ghost use Rattle.bracket.specs.Bracket.{bracket_of};
 ghost use Rattle.bracket.specs.Ends.{Rising};
 ghost use Rattle.multiplier.specs.Ready.{Ready};
-ghost use Rattle.search_step.specs.Step.{steppedOf, ended_of};
+ghost use Rattle.search_step.specs.Step.{stepped_of, ended_of};
 ghost use Rattle.multiplier.specs.Search.{problem};
 ghost use Rattle.multiplier.specs.Search as Definition;
 
@@ -34,7 +34,7 @@ pub fn solve_raised(
 ) -> Minimum
     requires { Ready n m r q.now c.now e.now b.now lower.now upper.now a.now row_lower.now
         row_upper.now at.now slopes.now }
-    ensures { minimizedOf n (m + r) result
+    ensures { minimized_of n (m + r) result
         ≡ Definition.solve (problem n m r q.now c.now e.now b.now lower.now
         upper.now a.now row_lower.now row_upper.now at.now slopes.now)
         extra (take n warm) }
@@ -81,8 +81,8 @@ fn double_step(
 ) -> Stepped
     requires { Ready n m r q.now c.now e.now b.now lower.now upper.now a.now row_lower.now
         row_upper.now at.now slopes.now }
-    ensures { steppedOf n (m + r) result
-        ≡ Definition.doubleStep (problem n m r q.now c.now e.now b.now lower.now
+    ensures { stepped_of n (m + r) result
+        ≡ Definition.double_step (problem n m r q.now c.now e.now b.now lower.now
         upper.now a.now row_lower.now row_upper.now at.now slopes.now)
         limit (bracket_of n (m + r) bracket) }
 {
@@ -172,8 +172,8 @@ fn cut_at(
 ) -> Stepped
     requires { Ready n m r q.now c.now e.now b.now lower.now upper.now a.now row_lower.now
         row_upper.now at.now slopes.now }
-    ensures { steppedOf n (m + r) result
-        ≡ Definition.cutAt (problem n m r q.now c.now e.now b.now lower.now
+    ensures { stepped_of n (m + r) result
+        ≡ Definition.cut_at (problem n m r q.now c.now e.now b.now lower.now
         upper.now a.now row_lower.now row_upper.now at.now slopes.now)
         limit (bracket_of n (m + r) bracket) }
 {
@@ -222,8 +222,8 @@ fn cut_step(
 ) -> Stepped
     requires { Ready n m r q.now c.now e.now b.now lower.now upper.now a.now row_lower.now
         row_upper.now at.now slopes.now }
-    ensures { steppedOf n (m + r) result
-        ≡ Definition.cutStep (problem n m r q.now c.now e.now b.now lower.now
+    ensures { stepped_of n (m + r) result
+        ≡ Definition.cut_step (problem n m r q.now c.now e.now b.now lower.now
         upper.now a.now row_lower.now row_upper.now at.now slopes.now)
         limit (bracket_of n (m + r) bracket) }
 {
@@ -303,7 +303,7 @@ pub fn reach_and_narrow(
         row_upper.now at.now slopes.now
         × Rising bracket }
     ensures { ended_of n (m + r) result
-        ≡ Definition.reachAndNarrow (problem n m r q.now c.now e.now b.now lower.now
+        ≡ Definition.reach_and_narrow (problem n m r q.now c.now e.now b.now lower.now
         upper.now a.now row_lower.now row_upper.now at.now slopes.now)
         limit (bracket_of n (m + r) bracket) }
 {

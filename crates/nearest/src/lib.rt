@@ -56,7 +56,7 @@ fn of_pattern(b: u64) -> u64
 
 // The nearest whole number, halves to even.
 fn whole(x: f64) -> i64
-    requires { Reach.inReach x ≡ true }
+    requires { Reach.in_reach x ≡ true }
     ensures { result ≡ Definition.nearest x }
 {
     let b = f64::to_bits(x);

@@ -2,7 +2,7 @@
 ghost use Rattle.std.specs.Prelude.{◌≡◌, ◌≤◌, ◌*◌, length};
 ghost use Rattle.sizes.specs.Sizes as Sizes;
 ghost use Rattle.scaled.specs.System.{Sized, system};
-ghost use Rattle.solution.specs.Solution.{solutionOf};
+ghost use Rattle.solution.specs.Solution.{solution_of};
 ghost use Rattle.noisy_kkt.specs.NoisyKkt as Definition;
 
 use scaled::Scale;
@@ -30,8 +30,8 @@ fn solve_by_in(
         × (n * m ≤ length coefficients.old)
         × (n * m ≤ length range.old)
         × (n * n ≤ length null.old) }
-    ensures { solutionOf n m result
-        ≡ Definition.solveBy (system n m k.now c.now e.now b.now) noise scale }
+    ensures { solution_of n m result
+        ≡ Definition.solve_by (system n m k.now c.now e.now b.now) noise scale }
 {
     let columns = scaled::column_scales(e, n, m);
     let square = n * n;
@@ -69,8 +69,8 @@ fn solve_by_small(
     scale: f64,
 ) -> Solution
     requires { Sized n m k.now c.now e.now b.now × (n ≤ Sizes.few) × (m ≤ Sizes.few) }
-    ensures { solutionOf n m result
-        ≡ Definition.solveBy (system n m k.now c.now e.now b.now) noise scale }
+    ensures { solution_of n m result
+        ≡ Definition.solve_by (system n m k.now c.now e.now b.now) noise scale }
 {
     let mut ks = [0.0; sizes::SMALL];
     let mut es = [0.0; sizes::SMALL];
@@ -105,8 +105,8 @@ fn solve_by_large(
     scale: f64,
 ) -> Solution
     requires { Sized n m k.now c.now e.now b.now }
-    ensures { solutionOf n m result
-        ≡ Definition.solveBy (system n m k.now c.now e.now b.now) noise scale }
+    ensures { solution_of n m result
+        ≡ Definition.solve_by (system n m k.now c.now e.now b.now) noise scale }
 {
     let mut ks = [0.0; sizes::SQUARE];
     let mut es = [0.0; sizes::TALL];
@@ -142,8 +142,8 @@ fn solve_by(
     scale: f64,
 ) -> Solution
     requires { Sized n m k.now c.now e.now b.now }
-    ensures { solutionOf n m result
-        ≡ Definition.solveBy (system n m k.now c.now e.now b.now) noise scale }
+    ensures { solution_of n m result
+        ≡ Definition.solve_by (system n m k.now c.now e.now b.now) noise scale }
 {
     if n <= sizes::FEW {
         if m <= sizes::FEW {
@@ -173,8 +173,8 @@ pub fn solve_noisy_kkt(
     noise: f64,
 ) -> Solution
     requires { Sized n m k.now c.now e.now b.now }
-    ensures { solutionOf n m result
-        ≡ Definition.solveNoisyKkt (system n m k.now c.now e.now b.now) noise }
+    ensures { solution_of n m result
+        ≡ Definition.solve_noisy_kkt (system n m k.now c.now e.now b.now) noise }
 {
     if finite(k, c, n) {
         return match scaled::k_scale(k, n) {

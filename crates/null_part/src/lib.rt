@@ -21,7 +21,7 @@ fn null_one(
         × (j < d)
         × (length direction.old ≡ n) }
     ensures { direction.new
-        ≡ NullPart.nullOne n d z.now vectors.now c.now j direction.old }
+        ≡ NullPart.null_one n d z.now vectors.now c.now j direction.old }
 {
     let w = columns::column(vectors, d, d, j);
     let v = dense::mul_vec(z, n, d, w);
@@ -46,7 +46,7 @@ fn null_each(
         × Below (length null.now) null.now d
         × (length direction.old ≡ n) }
     ensures { direction.new
-        ≡ NullPart.nullEach n d z.now vectors.now c.now null.now direction.old }
+        ≡ NullPart.null_each n d z.now vectors.now c.now null.now direction.old }
 {
     for i in 0..null.len() {
         null_one(z, vectors, c, n, d, null[i], direction);
@@ -70,7 +70,7 @@ pub fn null_part(
         × (n * d ≤ length z.now)
         × (n ≤ length c.now) }
     ensures { take n result
-        ≡ NullPart.nullPart n d values.now vectors.now cutoff z.now c.now }
+        ≡ NullPart.null_part n d values.now vectors.now cutoff z.now c.now }
 {
     let mut null = [0; sizes::VARIABLES];
     let mut direction = [0.0; sizes::VARIABLES];

@@ -1,7 +1,7 @@
 // The numbers of a field, their ranges, and verdicts. The definitions are format's specs/Read.antt.
 ghost use Rattle.std.specs.Prelude.{◌≡◌, ◌≤◌, ◌<◌};
 ghost use Rattle.std.specs.Int.Signed.{le_z};
-ghost use Rattle.block.specs.Ranges.{maxSum};
+ghost use Rattle.block.specs.Ranges.{max_sum};
 ghost use Rattle.format.specs.Read as Read;
 
 use format::Verdict;
@@ -21,7 +21,7 @@ pub fn byte_at(b: &[u8], i: usize) -> u64
 
 pub fn u16_at(b: &[u8], i: usize) -> u64
     requires { i ≤ 32 }
-    ensures { (result ≡ Read.u16At b.now i) × (result < 65536) }
+    ensures { (result ≡ Read.u16_at b.now i) × (result < 65536) }
 {
     byte_at(b, i) + 256 * byte_at(b, i + 1)
 }
@@ -46,49 +46,49 @@ pub fn signed(half: u64, n: u64) -> i64
 }
 
 pub fn i8_at(b: &[u8], i: usize) -> i64
-    ensures { result ≡ Read.i8At b.now i }
+    ensures { result ≡ Read.i8_at b.now i }
 {
     signed(128, byte_at(b, i))
 }
 
 pub fn i32_at(b: &[u8], i: usize) -> i64
     requires { i ≤ 30 }
-    ensures { result ≡ Read.i32At b.now i }
+    ensures { result ≡ Read.i32_at b.now i }
 {
     signed(2147483648, u32_at(b, i))
 }
 
 // Whether z is from -most to most.
 pub fn size_up_to(most: u64, z: i64) -> bool
-    requires { most ≤ maxSum }
-    ensures { result ≡ Read.sizeUpTo most z }
+    requires { most ≤ max_sum }
+    ensures { result ≡ Read.size_up_to most z }
 {
     let m = most as i64;
     if 0 - m <= z { z <= m } else { false }
 }
 
 pub fn is_zero(z: i64) -> bool
-    ensures { result ≡ Read.isZero z }
+    ensures { result ≡ Read.is_zero z }
 {
     if z <= 0 { 0 <= z } else { false }
 }
 
 pub fn i8_size_up_to(most: u64, b: &[u8], i: usize) -> bool
-    requires { most ≤ maxSum }
-    ensures { result ≡ Read.sizeUpTo most (Read.i8At b.now i) }
+    requires { most ≤ max_sum }
+    ensures { result ≡ Read.size_up_to most (Read.i8_at b.now i) }
 {
     size_up_to(most, i8_at(b, i))
 }
 
 pub fn i8_is_zero(b: &[u8], i: usize) -> bool
-    ensures { result ≡ Read.isZero (Read.i8At b.now i) }
+    ensures { result ≡ Read.is_zero (Read.i8_at b.now i) }
 {
     is_zero(i8_at(b, i))
 }
 
 pub fn i32_size_up_to(most: u64, b: &[u8], i: usize) -> bool
-    requires { (most ≤ maxSum) × (i ≤ 30) }
-    ensures { result ≡ Read.sizeUpTo most (Read.i32At b.now i) }
+    requires { (most ≤ max_sum) × (i ≤ 30) }
+    ensures { result ≡ Read.size_up_to most (Read.i32_at b.now i) }
 {
     size_up_to(most, i32_at(b, i))
 }
@@ -96,7 +96,7 @@ pub fn i32_size_up_to(most: u64, b: &[u8], i: usize) -> bool
 // Whether the number at i is at most that at j.
 pub fn i32_le(b: &[u8], i: usize, j: usize) -> bool
     requires { (i ≤ 30) × (j ≤ 30) }
-    ensures { result ≡ le_z (Read.i32At b.now i) (Read.i32At b.now j) }
+    ensures { result ≡ le_z (Read.i32_at b.now i) (Read.i32_at b.now j) }
 {
     i32_at(b, i) <= i32_at(b, j)
 }

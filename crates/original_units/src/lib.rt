@@ -2,7 +2,7 @@
 // n originals, m equality columns and r rows; E is n by m, the rows' a is n by r.
 ghost use Rattle.std.specs.Prelude.{◌≡◌, ◌≤◌, ◌+◌, ◌*◌, length, take};
 ghost use Rattle.sizes.specs.Sizes as Sizes;
-ghost use Rattle.minimum.specs.Minimized.{minimized, minimizedOf};
+ghost use Rattle.minimum.specs.Minimized.{minimized, minimized_of};
 ghost use Rattle.original_units.specs.Original as Definition;
 ghost use Rattle.original_units.specs.Holds.{Restores};
 
@@ -56,7 +56,7 @@ fn restored(
     r: usize,
 ) -> Minimum
     requires { Restores n m r e.now b.now a.now row_lower.now row_upper.now scales.now columns.now }
-    ensures { minimizedOf n (m + r) result
+    ensures { minimized_of n (m + r) result
         ≡ Definition.restored n m r e.now b.now a.now row_lower.now row_upper.now
         scales.now columns.now (take (n + r) u) (take (m + r) lambda) passes }
 {
@@ -95,7 +95,7 @@ pub fn original(
     r: usize,
 ) -> Minimum
     requires { Restores n m r e.now b.now a.now row_lower.now row_upper.now scales.now columns.now }
-    ensures { minimizedOf n (m + r) result
+    ensures { minimized_of n (m + r) result
         ≡ Definition.original n m r e.now b.now a.now row_lower.now row_upper.now
         scales.now columns.now (minimized verdict (take (n + r) u) (take (m + r) lambda) passes) }
 {

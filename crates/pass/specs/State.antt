@@ -2,8 +2,8 @@
 use Rattle.std.specs.Prelude.{ℕ, ◌≡◌, List, Float}
 use Rattle.std.proofs.Math.Path.{refl}
 use Rattle.folds.specs.Run.{Pass, more, done}
-use Rattle.factoring.specs.Kept.{Kept, keptOf}
-use Rattle.iterate.specs.Iterate.{Result, passedOf}
+use Rattle.factoring.specs.Kept.{Kept, kept_of}
+use Rattle.iterate.specs.Iterate.{Result, passed_of}
 use Rattle.iterate.specs.declared.Iterate.{Iterate}
 use Rattle.pass.specs.declared.Made.{Made}
 
@@ -16,7 +16,7 @@ beside f l (done r) = done r
 
 -- of what the code leaves, with n variables and m columns
 unfoldable pub made_of : (n m : ℕ) → Made → (l : List Float) → Pass State Result
-made_of n m r l = beside (keptOf r.factoring) l (passedOf n m r.passed)
+made_of n m r l = beside (kept_of r.factoring) l (passed_of n m r.passed)
 
 -- ---- laws
 module _ (f : Kept) (l : List Float) where
@@ -28,6 +28,6 @@ module _ (f : Kept) (l : List Float) where
   unfolding beside
   beside-done r = refl
 
-pub made-beside : (n m : ℕ) (r : Made) (l : List Float) → made_of n m r l ≡ beside (keptOf r.factoring) l (passedOf n m r.passed)
+pub made_beside : (n m : ℕ) (r : Made) (l : List Float) → made_of n m r l ≡ beside (kept_of r.factoring) l (passed_of n m r.passed)
 unfolding made_of
-made-beside n m r l = refl
+made_beside n m r l = refl

@@ -3,7 +3,7 @@
 // them below `originals`, `slacks` the others. The slices from room on are work memory, but l, which holds the kept factor.
 ghost use Rattle.std.specs.Prelude.{◌≡◌, ◌≤◌, ◌*◌, length};
 ghost use Rattle.variable_set.specs.Rising.{Rising};
-ghost use Rattle.factoring.specs.Kept.{keptOf, Good};
+ghost use Rattle.factoring.specs.Kept.{kept_of, Good};
 ghost use Rattle.segments.specs.Segments.{AllCut};
 ghost use Rattle.iterate.specs.Problem.{problem, Shaped, Room};
 ghost use Rattle.iterate.specs.Iterate.{Consistent};
@@ -53,9 +53,9 @@ fn free_pass(
         × Good counts.originals factoring l.old
         × (counts.originals * counts.originals ≤ length l.old) }
     ensures l_after { made_of counts.n counts.m result l.new
-        ≡ Definition.freePass
+        ≡ Definition.free_pass
         (problem counts.originals counts.n counts.m q.now c.now e.now b.now)
-        segments fixed.now magnitudes.q magnitudes.linear solved.now slacks.now iterate (keptOf factoring)
+        segments fixed.now magnitudes.q magnitudes.linear solved.now slacks.now iterate (kept_of factoring)
         l.old }
     ensures consistent { Consistent counts.n segments result.passed.iterate × Good counts.originals result.factoring l.new }
 {
@@ -155,7 +155,7 @@ pub fn pass(
         × (counts.originals * counts.originals ≤ length l.old) }
     ensures l_after { made_of counts.n counts.m result l.new
         ≡ Definition.pass (problem counts.originals counts.n counts.m q.now c.now e.now b.now)
-        segments fixed.now magnitudes.q magnitudes.linear (state iterate (keptOf factoring) l.old) }
+        segments fixed.now magnitudes.q magnitudes.linear (state iterate (kept_of factoring) l.old) }
     ensures consistent { Consistent counts.n segments result.passed.iterate × Good counts.originals result.factoring l.new }
 {
     let board = iterate.board;

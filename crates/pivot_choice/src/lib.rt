@@ -3,7 +3,7 @@
 ghost use Rattle.std.specs.Prelude.{◌≡◌, ◌≤◌, ◌<◌, ◌*◌, min, max, length};
 ghost use Rattle.folds.specs.Best.{found, better};
 ghost use Rattle.pivot_choice.specs.PivotChoice as PivotChoice;
-ghost use Rattle.pivot_choice.specs.PivotChoice.{asBest, at_least};
+ghost use Rattle.pivot_choice.specs.PivotChoice.{as_best, at_least};
 
 // The remaining column of the largest norm, as `max_by` has it.
 #[derive(Drop)]
@@ -26,14 +26,14 @@ pub fn smaller_of(n: usize, m: usize) -> usize
 
 fn column_norm(a: &[f64], n: usize, m: usize, j: usize) -> f64
     requires { (n * m ≤ length a.now) × (j < m) }
-    ensures { result ≡ PivotChoice.columnNorm n a.now j }
+    ensures { result ≡ PivotChoice.column_norm n a.now j }
 {
     reductions::norm(columns::column(a, n, m, j), n)
 }
 
 fn largest_norm(e: &[f64], n: usize, m: usize) -> f64
     requires { n * m ≤ length e.now }
-    ensures { result ≡ PivotChoice.largestNorm n m e.now }
+    ensures { result ≡ PivotChoice.largest_norm n m e.now }
 {
     let mut s = 0.0;
     for j in 0..m {
@@ -51,7 +51,7 @@ pub fn tolerance(e: &[f64], n: usize, m: usize) -> f64
 }
 
 fn better(j: usize, norm: f64, best: Largest) -> Largest
-    ensures { asBest result ≡ better at_least (asBest best) (found (j, norm)) }
+    ensures { as_best result ≡ better at_least (as_best best) (found (j, norm)) }
 {
     let Largest::Found(_, value) = best else {
         return Largest::Found(j, norm);
@@ -71,7 +71,7 @@ fn better_one(
     best: Largest,
 ) -> Largest
     requires { (n * m ≤ length left.now) × (m ≤ length remaining.now) × (j < m) }
-    ensures { asBest result ≡ better at_least (asBest best) (PivotChoice.offered n left.now remaining.now j) }
+    ensures { as_best result ≡ better at_least (as_best best) (PivotChoice.offered n left.now remaining.now j) }
 {
     if remaining[j] {
         return better(j, column_norm(left, n, m, j), best);
@@ -81,7 +81,7 @@ fn better_one(
 
 pub fn largest_column(left: &[f64], n: usize, m: usize, remaining: &[bool]) -> Largest
     requires { (n * m ≤ length left.now) × (m ≤ length remaining.now) }
-    ensures { result ≡ PivotChoice.largestColumn n m left.now remaining.now }
+    ensures { result ≡ PivotChoice.largest_column n m left.now remaining.now }
 {
     let mut best = Largest::Nothing;
     for j in 0..m {

@@ -3,63 +3,63 @@ use Rattle.std.specs.Prelude.{◌≡◌, refl, Bool, List, [], ◌∷◌, ◌++�
 use Rattle.std.proofs.Common.{◌∙◌, not-suc-le-zero, arith, length-take-le, get_or-take}
 use Rattle.std.proofs.Math.Bool.{true, false}
 use Rattle.std.specs.Float.Ieee.{le}
-use Rattle.folds.specs.Fold.{tab, pick, out, ended, walk-keep}
+use Rattle.folds.specs.Fold.{tab, pick, out, ended, walk_keep}
 use Rattle.folds.specs.Part.{Two, two}
 use Rattle.folds.specs.Tab.{take-replicate}
 use Rattle.arith.specs.Float.{f0}
 use Rattle.vector.specs.Vector.{copy, filled, Below}
-use Rattle.pivot_choice.specs.PivotChoice.{tolerance, largestColumn}
-use Rattle.pivot_choice.specs.Laws.{found_below}
+use Rattle.pivot_choice.specs.PivotChoice.{tolerance, largest_column}
+use Rattle.pivot_choice.specs.Laws.{found-below}
 use Rattle.pivot_choice.specs.declared.Largest.{Largest}
 use Rattle.pivot_choice.specs.declared.Largest.TheVariants.{Found, Nothing}
-use Rattle.pivoting.specs.Pivoting.{Pivoting, pivoting, withBasis, taken, choose, pivotStep, pivoted, factored, state_of, Taken}
+use Rattle.pivoting.specs.Pivoting.{Pivoting, pivoting, with_basis, taken, choose, pivot_step, pivoted, factored, state_of, Taken}
 use Rattle.pivoting.specs.declared.Pivots.{Pivots}
 
 -- ---- the columns taken
-abbrev pivotsOf : Pivoting → List ℕ
-pivotsOf (pivoting left coefficients basis pivots remaining) = pivots
+abbrev pivots_of : Pivoting → List ℕ
+pivots_of (pivoting left coefficients basis pivots remaining) = pivots
 
 -- each is below m
 abbrev AllBelow : ℕ → List ℕ → Type 0
 AllBelow m l = Below (length l) l m
 
-push-below : (m j : ℕ) (l : List ℕ) → j < m → AllBelow m l → AllBelow m (l ++ (j ∷ []))
-push-below m j [] h p zero k = h
-push-below m j [] h p (suc i) k = absurd (omega arith)
-push-below m j (x ∷ l) h p zero k = p 0 (omega arith)
-push-below m j (x ∷ l) h p (suc i) k = push-below m j l h (λ t q. p (suc t) (omega arith)) i (omega arith)
+push_below : (m j : ℕ) (l : List ℕ) → j < m → AllBelow m l → AllBelow m (l ++ (j ∷ []))
+push_below m j [] h p zero k = h
+push_below m j [] h p (suc i) k = absurd (omega arith)
+push_below m j (x ∷ l) h p zero k = p 0 (omega arith)
+push_below m j (x ∷ l) h p (suc i) k = push_below m j l h (λ t q. p (suc t) (omega arith)) i (omega arith)
 
 module _ (n m p : ℕ) (tol : Float) (row : ℕ) where
-  ended-pick : (b : Bool) (s t : Pivoting) → AllBelow m (pivotsOf s) → AllBelow m (pivotsOf t) →
-      AllBelow m (pivotsOf (ended (pick b (out false s) (out true t))))
+  ended-pick : (b : Bool) (s t : Pivoting) → AllBelow m (pivots_of s) → AllBelow m (pivots_of t) →
+      AllBelow m (pivots_of (ended (pick b (out false s) (out true t))))
   unfolding pick ended
   ended-pick true s t p q = p
   ended-pick false s t p q = q
 
-  with-basis-below : (y basis : List Float) (pivots : List ℕ) (remaining : List Bool) (s : Two (List Float) (List Float)) → AllBelow m pivots →
-      AllBelow m (pivotsOf (withBasis n row y basis pivots remaining s))
-  unfolding withBasis
-  with-basis-below y basis pivots remaining (two left coefficients) q = q
+  with_basis-below : (y basis : List Float) (pivots : List ℕ) (remaining : List Bool) (s : Two (List Float) (List Float)) → AllBelow m pivots →
+      AllBelow m (pivots_of (with_basis n row y basis pivots remaining s))
+  unfolding with_basis
+  with_basis-below y basis pivots remaining (two left coefficients) q = q
 
-  taking-below : (j : ℕ) (norm : Float) (s : Pivoting) → j < m → AllBelow m (pivotsOf s) → AllBelow m (pivotsOf (taken n m p row j norm s))
+  taking_below : (j : ℕ) (norm : Float) (s : Pivoting) → j < m → AllBelow m (pivots_of s) → AllBelow m (pivots_of (taken n m p row j norm s))
   unfolding taken
-  taking-below j norm (pivoting left coefficients basis pivots remaining) l q = with-basis-below _ _ _ _ _ (push-below m j pivots l q)
+  taking_below j norm (pivoting left coefficients basis pivots remaining) l q = with_basis-below _ _ _ _ _ (push_below m j pivots l q)
 
-  choose-below : (l : Largest) (s : Pivoting) → ((j : ℕ) (norm : Float) → Found j norm ≡ l → j < m) → AllBelow m (pivotsOf s) →
-      AllBelow m (pivotsOf (ended (choose n m p tol row l s)))
+  choose-below : (l : Largest) (s : Pivoting) → ((j : ℕ) (norm : Float) → Found j norm ≡ l → j < m) → AllBelow m (pivots_of s) →
+      AllBelow m (pivots_of (ended (choose n m p tol row l s)))
   unfolding choose ended
   choose-below Nothing s f q = q
-  choose-below (Found j norm) s f q = ended-pick (le norm tol) s (taken n m p row j norm s) q (taking-below j norm s (f j norm refl) q)
+  choose-below (Found j norm) s f q = ended-pick (le norm tol) s (taken n m p row j norm s) q (taking_below j norm s (f j norm refl) q)
 
-  step-below : (s : Pivoting) → AllBelow m (pivotsOf s) → AllBelow m (pivotsOf (ended (pivotStep n m p tol row s)))
-  unfolding pivotStep
+  step-below : (s : Pivoting) → AllBelow m (pivots_of s) → AllBelow m (pivots_of (ended (pivot_step n m p tol row s)))
+  unfolding pivot_step
   step-below (pivoting left coefficients basis pivots remaining) q =
-      choose-below (largestColumn n m left remaining) (pivoting left coefficients basis pivots remaining) (found_below n m left remaining) q
+      choose-below (largest_column n m left remaining) (pivoting left coefficients basis pivots remaining) (found-below n m left remaining) q
 
-factored-below : (n m p : ℕ) (e : List Float) → AllBelow m (pivotsOf (factored n m p e))
+factored-below : (n m p : ℕ) (e : List Float) → AllBelow m (pivots_of (factored n m p e))
 unfolding factored pivoted
 factored-below n m p e =
-    walk-keep (λ s. AllBelow m (pivotsOf s)) p (pivotStep n m p (tolerance n m e)) _ (λ i l. absurd (not-suc-le-zero l))
+    walk_keep (λ s. AllBelow m (pivots_of s)) p (pivot_step n m p (tolerance n m e)) _ (λ i l. absurd (not-suc-le-zero l))
     (λ row s l q. step-below n m p (tolerance n m e) row s q)
 
 pub factored-taken : (n m p : ℕ) (e left coefficients basis : List Float) (r : Pivots) → state_of m left coefficients basis r ≡ factored n m p e →

@@ -5,7 +5,7 @@ ghost use Rattle.folds.specs.Fold.{out, pick};
 ghost use Rattle.folds.specs.Part.{two};
 ghost use Rattle.sizes.specs.Sizes as Sizes;
 ghost use Rattle.arith.specs.Float.{at};
-ghost use Rattle.columns.specs.Columns.{putColumn};
+ghost use Rattle.columns.specs.Columns.{put_column};
 ghost use Rattle.pivoting.specs.Pivoting as Pivoting;
 ghost use Rattle.pivoting.specs.Pivoting.{state_of, Taken};
 
@@ -22,7 +22,7 @@ pub struct Pivots {
 // Column l of a (n by m) less y times t.
 fn sub_column(a: &mut [f64], n: usize, m: usize, l: usize, y: &[f64], t: f64)
     requires { (n * m ≤ length a.old) × (l < m) × (n ≤ length y.now) }
-    ensures { a.new ≡ Pivoting.subColumn n l y.now t a.old }
+    ensures { a.new ≡ Pivoting.sub_column n l y.now t a.old }
 {
     for i in 0..n {
         let v = columns::get(&a[..], n, m, i, l) - y[i] * t;
@@ -42,7 +42,7 @@ fn remove_part(
 )
     requires { (n * m ≤ length left.old) × (p * m ≤ length coefficients.old) × (row < p) × (n ≤ length y.now) × (l < m) }
     ensures { two left.new coefficients.new
-        ≡ Pivoting.removePart n p row y.now l (two left.old coefficients.old) }
+        ≡ Pivoting.remove_part n p row y.now l (two left.old coefficients.old) }
 {
     let t = reductions::dot(y, columns::column(&left[..], n, m, l), n);
     let c = columns::get(&coefficients[..], p, m, row, l) + t;
@@ -69,7 +69,7 @@ fn remove_one(
         × (m ≤ length remaining.now)
         × (l < m) }
     ensures { two left.new coefficients.new
-        ≡ Pivoting.removeOne n p row y.now remaining.now l (two left.old coefficients.old) }
+        ≡ Pivoting.remove_one n p row y.now remaining.now l (two left.old coefficients.old) }
 {
     if remaining[l] {
         remove_part(left, coefficients, n, m, p, row, y, l);
@@ -93,7 +93,7 @@ fn remove_all(
         × (n ≤ length y.now)
         × (m ≤ length remaining.now) }
     ensures { two left.new coefficients.new
-        ≡ Pivoting.removeAll n m p row y.now remaining.now (two left.old coefficients.old) }
+        ≡ Pivoting.remove_all n m p row y.now remaining.now (two left.old coefficients.old) }
 {
     for l in 0..m {
         remove_one(left, coefficients, n, m, p, row, y, remaining, l);
@@ -102,7 +102,7 @@ fn remove_all(
 
 fn put_column(a: &mut [f64], n: usize, m: usize, j: usize, y: &[f64])
     requires { (n * m ≤ length a.old) × (j < m) × (n ≤ length y.now) }
-    ensures { a.new ≡ putColumn n n j (at y.now) a.old }
+    ensures { a.new ≡ put_column n n j (at y.now) a.old }
 {
     for i in 0..n {
         columns::put(a, n, m, i, j, y[i]);
@@ -128,8 +128,8 @@ fn with_basis(
         × (n ≤ length y.now)
         × (m ≤ length remaining.now) }
     ensures coefficients_after { two left.new coefficients.new
-        ≡ Pivoting.removeAll n m p row y.now remaining.now (two left.old coefficients.old) }
-    ensures basis_after { basis.new ≡ putColumn n n row (at y.now) basis.old }
+        ≡ Pivoting.remove_all n m p row y.now remaining.now (two left.old coefficients.old) }
+    ensures basis_after { basis.new ≡ put_column n n row (at y.now) basis.old }
 {
     remove_all(left, coefficients, n, m, p, row, y, remaining);
     put_column(basis, n, p, row, y);
@@ -220,7 +220,7 @@ fn pivot_step(
         × (p ≤ m)
         × (pivots.rank ≡ row) }
     ensures pivots_after { out result.more (state_of m left.new coefficients.new basis.new result.pivots)
-        ≡ Pivoting.pivotStep n m p tolerance row (state_of m left.old coefficients.old basis.old pivots) }
+        ≡ Pivoting.pivot_step n m p tolerance row (state_of m left.old coefficients.old basis.old pivots) }
     ensures rank_value { result.pivots.rank ≡ pick result.more (row + 1) row }
 {
     let remaining = pivots.remaining;

@@ -7,13 +7,13 @@ use Rattle.format.specs.declared.Block.{Block}
 use Rattle.format.specs.Structs.{block_of, Sound}
 use Rattle.format.specs.Entries.{words-length}
 use Rattle.exact.specs.Planned.{Planned}
-use Rattle.gap.specs.Prices.{priceCount}
-use Rattle.gap.specs.Input.{PlanAndPrices, same_count}
-use Rattle.rounding.specs.Lists.{timesOf, pricesOf, TimesOf, PricesOf}
+use Rattle.gap.specs.Prices.{price_count}
+use Rattle.gap.specs.Input.{PlanAndPrices, same-count}
+use Rattle.rounding.specs.Lists.{times_of, prices_of, TimesOf, PricesOf}
 use Rattle.rounding.specs.Laws.{times-timed}
 use Rattle.rounding.specs.declared.Times.{Times}
-use Rattle.placement.specs.Placed.{Placed, answered, refused, answerFor, written}
-use Rattle.placement.specs.Laws.{plan-and-prices, out_of_range, not-bounded, is-answer}
+use Rattle.placement.specs.Placed.{Placed, answered, refused, answer_for, written}
+use Rattle.placement.specs.Laws.{plan-and-prices, out-of-range, not-bounded, is-answer}
 use Rattle.placement.specs.Held.{Holds}
 use Rattle.placement.specs.declared.Placement.{Placement}
 
@@ -29,19 +29,19 @@ module _ {b : Block} (S : Sound b) (R : Ranged (block_of b)) (x μ : List Float)
   abbrev multipliers : List Float
   multipliers = take (b.anchors + b.spans) μ
 
-  x-long : length weights ≡ length (block_of b).words
-  x-long = length-take-le _ _ x-room ∙ sym (words-length S)
+  x_long : length weights ≡ length (block_of b).words
+  x_long = length-take-le _ _ x-room ∙ sym (words-length S)
 
-  μ-long : length multipliers ≡ priceCount (block_of b)
-  μ-long = length-take-le _ _ μ-room ∙ sym (same_count S)
+  μ_long : length multipliers ≡ price_count (block_of b)
+  μ_long = length-take-le _ _ μ-room ∙ sym (same-count S)
 
   module _ {t : Times} (T : TimesOf weights t) where
     pub times-off : {p : Placement} (passes : ℕ) (raise : Float) → t.on ≡ false → Holds (refused 14) b p → Holds (written_of b x μ passes raise) b p
     times-off passes raise e h =
-        record { is = out_of_range R _ _ raise x-long μ-long passes (sym T.all-on ∙ e) h.is; of-block = h.of-block }
+        record { is = out-of-range R _ _ raise x_long μ_long passes (sym T.all_on ∙ e) h.is; of_block = h.of_block }
 
     module _ (on : t.on ≡ true) where
-      times-are : take b.words t.times ≡ timesOf weights
+      times-are : take b.words t.times ≡ times_of weights
       times-are = ap (λ (k : ℕ). take k t.times) (sym (length-take-le _ _ x-room)) ∙ T.are on
 
       pub times-planned : length (take b.words t.times) ≡ b.words → Planned b (take b.words t.times)
@@ -51,32 +51,32 @@ module _ {b : Block} (S : Sound b) (R : Ranged (block_of b)) (x μ : List Float)
             ranged = R;
             each = l;
             timed =
-                subst₂ Timed (length-take-le _ _ x-room ∙ sym l) (sym times-are) (times-timed weights (sym T.all-on ∙ on));
+                subst₂ Timed (length-take-le _ _ x-room ∙ sym l) (sym times-are) (times-timed weights (sym T.all_on ∙ on));
           }
 
-      judged-is : {r : Bool} → bounded (block_of b) (take b.words t.times) ≡ r → bounded (block_of b) (timesOf weights) ≡ r
+      judged-is : {r : Bool} → bounded (block_of b) (take b.words t.times) ≡ r → bounded (block_of b) (times_of weights) ≡ r
       judged-is e = ap (bounded (block_of b)) (sym times-are) ∙ e
 
-      pub times-break : {p : Placement} (passes : ℕ) (raise : Float) → bounded (block_of b) (take b.words t.times) ≡ false
+      pub times_break : {p : Placement} (passes : ℕ) (raise : Float) → bounded (block_of b) (take b.words t.times) ≡ false
           → Holds (refused 14) b p → Holds (written_of b x μ passes raise) b p
-      times-break passes raise e h =
-          record { is = not-bounded R _ _ raise x-long μ-long passes (judged-is e) h.is; of-block = h.of-block }
+      times_break passes raise e h =
+          record { is = not-bounded R _ _ raise x_long μ_long passes (judged-is e) h.is; of_block = h.of_block }
 
       module _ (e : bounded (block_of b) (take b.words t.times) ≡ true) {raise : Float} {ps : List ℤ} (P : PricesOf multipliers raise ps) where
-        prices-are : take (b.anchors + b.spans + 1) ps ≡ pricesOf multipliers raise
+        prices-are : take (b.anchors + b.spans + 1) ps ≡ prices_of multipliers raise
         prices-are = ap (λ (k : ℕ). take (k + 1) ps) (sym (length-take-le _ _ μ-room)) ∙ P.are
 
-        pub times-priced : PlanAndPrices (block_of b) (take b.words t.times) (take (b.anchors + b.spans + 1) ps)
-        times-priced =
-            subst₂ (PlanAndPrices (block_of b)) (sym times-are) (sym prices-are) (plan-and-prices R _ _ raise x-long μ-long (judged-is e))
+        pub times_priced : PlanAndPrices (block_of b) (take b.words t.times) (take (b.anchors + b.spans + 1) ps)
+        times_priced =
+            subst₂ (PlanAndPrices (block_of b)) (sym times-are) (sym prices-are) (plan-and-prices R _ _ raise x_long μ_long (judged-is e))
 
         pub times-answer : {p : Placement} {passes : ℕ}
-            → Holds (answered (answerFor (block_of b) (take b.words t.times) (take (b.anchors + b.spans + 1) ps) passes)) b p
+            → Holds (answered (answer_for (block_of b) (take b.words t.times) (take (b.anchors + b.spans + 1) ps) passes)) b p
             → Holds (written_of b x μ passes raise) b p
         times-answer {p} {passes} h =
             record {
               is =
-                  is-answer R _ _ raise x-long μ-long passes (sym T.all-on ∙ on) (judged-is e)
-                  (h.is ∙ ap₂ (λ (y z : List ℤ). answered (answerFor (block_of b) y z passes)) times-are prices-are);
-              of-block = h.of-block;
+                  is-answer R _ _ raise x_long μ_long passes (sym T.all_on ∙ on) (judged-is e)
+                  (h.is ∙ ap₂ (λ (y z : List ℤ). answered (answer_for (block_of b) y z passes)) times-are prices-are);
+              of_block = h.of_block;
             }

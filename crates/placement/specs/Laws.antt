@@ -4,28 +4,28 @@ use Rattle.std.proofs.Math.Path.{refl, sym}
 use Rattle.std.proofs.Common.{◌∙◌, ap, ⊎_elim, true≢false, arith}
 use Rattle.std.proofs.Math.Logic.{inl, inr}
 use Rattle.std.proofs.Math.Bool.{true, false}
-use Rattle.folds.specs.Fold.{pick_true, pick-false, both, both_true, both_yes, both_first, both-second}
+use Rattle.folds.specs.Fold.{pick_true, pick_false, both, both_true, both_yes, both-first, both-second}
 use Rattle.ints.specs.Diff.{diff, split}
 use Rattle.arith.specs.Float.{at}
 use Rattle.arith.specs.Scalar.{is_finite}
-use Rattle.reductions.specs.Reductions.{allFinite}
+use Rattle.reductions.specs.Reductions.{all_finite}
 use Rattle.reductions.specs.Laws.{finite-at}
 use Rattle.block.specs.Block.{Block, word}
 use Rattle.block.specs.Plan.{time}
-use Rattle.block.specs.Keeps.{bounded, bounded-true}
-use Rattle.block.specs.Laws.{bounded-far}
-use Rattle.block.specs.Ranges.{maxTime, Ranged, Timed}
-use Rattle.gap.specs.Prices.{priceCount}
+use Rattle.block.specs.Keeps.{bounded, bounded_true}
+use Rattle.block.specs.Laws.{bounded_far}
+use Rattle.block.specs.Ranges.{max_time, Ranged, Timed}
+use Rattle.gap.specs.Prices.{price_count}
 use Rattle.gap.specs.Input.{PlanAndPrices}
 use Rattle.plan_check.specs.Laws.{gap-fits}
-use Rattle.rounding.specs.Lists.{timesOf, allInRange, pricesOf}
-use Rattle.rounding.specs.Laws.{time-off, length-timesOf, timesOf-at, length-pricesOf, pricesOf-small, all-finite, pricesOf-cap, cap-from, cap-small}
+use Rattle.rounding.specs.Lists.{times_of, all_in_range, prices_of}
+use Rattle.rounding.specs.Laws.{time-off, length-times_of, times_of-at, length-prices_of, prices_of-small, all-finite, prices_of-cap, cap_from, cap_small}
 use Rattle.rounding.specs.Laws.{one-off}
-use Rattle.placement.specs.Placed.{Placed, answered, refused, answerFor, judged, written}
+use Rattle.placement.specs.Placed.{Placed, answered, refused, answer_for, judged, written}
 
 -- ---- a plan within its bounds has its times in range
-in-range : (n : ℕ) (z : ℤ) → pos 0 ≤ℤ z → z ≤ℤ pos n → n ≤ maxTime → nat_abs z ≤ maxTime
-in-range n = split _ λ a b. simp diff (omega arith)
+in_range_lem : (n : ℕ) (z : ℤ) → pos 0 ≤ℤ z → z ≤ℤ pos n → n ≤ max_time → nat_abs z ≤ max_time
+in_range_lem n = split _ λ a b. simp diff (omega arith)
 
 from-lower : (l : ℕ) (z : ℤ) → pos l ≤ℤ z → pos 0 ≤ℤ z
 from-lower l = split _ λ a b. simp diff (omega arith)
@@ -36,55 +36,55 @@ module _ {b : Block} (R : Ranged b) where
       record {
         small = λ i h.
             let j : i < length b.words = omega arith in
-            let w = (bounded-true b x e).windows i j in
-            in-range (word b i).upper (time x i) (from-lower (word b i).lower (time x i) w.0) w.1 (R.Each-word i j).upper;
+            let w = (bounded_true b x e).windows i j in
+            in_range_lem (word b i).upper (time x i) (from-lower (word b i).lower (time x i) w.0) w.1 (R.Each-word i j).upper;
       }
 
   -- ---- what is written of an answer of the engine
-  module _ (x multipliers : List Float) (raise : Float) (x-long : length x ≡ length b.words)
-      (multipliers-long : length multipliers ≡ priceCount b) where
+  module _ (x multipliers : List Float) (raise : Float) (x_long : length x ≡ length b.words)
+      (multipliers_long : length multipliers ≡ price_count b) where
     abbrev times : List ℤ
-    times = timesOf x
+    times = times_of x
 
     abbrev prices : List ℤ
-    prices = pricesOf multipliers raise
+    prices = prices_of multipliers raise
 
     pub plan-and-prices : bounded b times ≡ true → PlanAndPrices b times prices
     plan-and-prices e =
         record {
-          times = length-timesOf x ∙ x-long;
-          prices = length-pricesOf multipliers raise ∙ ap (λ (n : ℕ). n + 1) multipliers-long;
-          timed = bounded-timed times (length-timesOf x ∙ x-long) e;
-          small = λ k h. pricesOf-small multipliers raise k (omega arith);
-          cap-from = rw (← multipliers-long, pricesOf-cap multipliers raise) (cap-from raise);
-          cap-small = rw (← multipliers-long, pricesOf-cap multipliers raise) (cap-small raise).size;
+          times = length-times_of x ∙ x_long;
+          prices = length-prices_of multipliers raise ∙ ap (λ (n : ℕ). n + 1) multipliers_long;
+          timed = bounded-timed times (length-times_of x ∙ x_long) e;
+          small = λ k h. prices_of-small multipliers raise k (omega arith);
+          cap_from = rw (← multipliers_long, prices_of-cap multipliers raise) (cap_from raise);
+          cap_small = rw (← multipliers_long, prices_of-cap multipliers raise) (cap_small raise).size;
         }
 
     module _ (passes : ℕ) where
       -- 14, by the three ways to it
       pub not-bounded : {r : Placed} → bounded b times ≡ false → r ≡ refused 14 → r ≡ written b x multipliers passes raise
       unfolding written judged
-      not-bounded e q = pick-false _ _ (both-second (allFinite (length x) x) e) q
+      not-bounded e q = pick_false _ _ (both-second (all_finite (length x) x) e) q
 
-      not_finite : {r : Placed} → allFinite (length x) x ≡ false → r ≡ refused 14 → r ≡ written b x multipliers passes raise
+      not-finite : {r : Placed} → all_finite (length x) x ≡ false → r ≡ refused 14 → r ≡ written b x multipliers passes raise
       unfolding written judged
-      not_finite e q = pick-false _ _ (both_first _ e) q
+      not-finite e q = pick_false _ _ (both-first _ e) q
 
-      pub out_of_range : {r : Placed} → allInRange x ≡ false → r ≡ refused 14 → r ≡ written b x multipliers passes raise
-      out_of_range e q =
+      pub out-of-range : {r : Placed} → all_in_range x ≡ false → r ≡ refused 14 → r ≡ written b x multipliers passes raise
+      out-of-range e q =
           let o = one-off x e in
-          ⊎_elim (λ f. not_finite (unfinite o.0 o.1 f) q)
-          (λ f. not-bounded (bounded-far R times o.0 (let l = o.1 in omega arith) (rw (timesOf-at x o.0 o.1) f)) q)
+          ⊎_elim (λ f. not-finite (unfinite o.0 o.1 f) q)
+          (λ f. not-bounded (bounded_far R times o.0 (let l = o.1 in omega arith) (rw (times_of-at x o.0 o.1) f)) q)
           (time-off (at x o.0) o.2)
         where
-          unfinite : (i : ℕ) → i < length x → is_finite (at x i) ≡ false → allFinite (length x) x ≡ false
-          unfinite i h f = go (allFinite (length x) x) refl
+          unfinite : (i : ℕ) → i < length x → is_finite (at x i) ≡ false → all_finite (length x) x ≡ false
+          unfinite i h f = go (all_finite (length x) x) refl
             where
-              go : (t : Bool) → allFinite (length x) x ≡ t → allFinite (length x) x ≡ false
+              go : (t : Bool) → all_finite (length x) x ≡ t → all_finite (length x) x ≡ false
               go true a = absurd (true≢false (sym (finite-at (length x) i x a h) ∙ f))
               go false a = a
 
-      pub is-answer : {r : Placed} → allInRange x ≡ true → bounded b times ≡ true → r ≡ answered (answerFor b times prices passes)
+      pub is-answer : {r : Placed} → all_in_range x ≡ true → bounded b times ≡ true → r ≡ answered (answer_for b times prices passes)
           → r ≡ written b x multipliers passes raise
       unfolding written judged
       is-answer a e q =
@@ -93,15 +93,15 @@ module _ {b : Block} (R : Ranged b) where
       -- and no other way: an answer, within the bounds, or 14
       abbrev pub AnswerOr14 : Type 0
       AnswerOr14 =
-          ((bounded b times ≡ true) × (written b x multipliers passes raise ≡ answered (answerFor b times prices passes)))
+          ((bounded b times ≡ true) × (written b x multipliers passes raise ≡ answered (answer_for b times prices passes)))
           ⊎ (written b x multipliers passes raise ≡ refused 14)
 
-      pub written-by : AnswerOr14
+      pub written_by : AnswerOr14
       unfolding written judged
-      written-by = go (both (allFinite (length x) x) (bounded b times)) refl
+      written_by = go (both (all_finite (length x) x) (bounded b times)) refl
         where
-          go : (t : Bool) → both (allFinite (length x) x) (bounded b times) ≡ t → AnswerOr14
+          go : (t : Bool) → both (all_finite (length x) x) (bounded b times) ≡ t → AnswerOr14
           go true h =
               let e = (both_true _ _ h).1 in
               inl (e, sym (pick_true _ _ h (pick_true _ _ (gap-fits R (plan-and-prices e)) refl)))
-          go false h = inr (sym (pick-false _ _ h refl))
+          go false h = inr (sym (pick_false _ _ h refl))

@@ -3,10 +3,10 @@ ghost use Rattle.std.specs.Prelude.{◌≡◌, ◌+◌, take};
 ghost use Rattle.block.specs.Ranges.{Ranged};
 ghost use Rattle.format.specs.Structs.{Sound, block_of};
 ghost use Rattle.gap.specs.Input.{PlanAndPrices};
-ghost use Rattle.answer.specs.File.{fileSize, Written};
+ghost use Rattle.answer.specs.File.{file_size, Written};
 ghost use Rattle.answer.specs.Back.{Sized};
 ghost use Rattle.placement.specs.Placed as Placed;
-ghost use Rattle.placement.specs.Placed.{answerFor};
+ghost use Rattle.placement.specs.Placed.{answer_for};
 ghost use Rattle.placement.specs.Held.{answer_in, Holds, Left};
 ghost use Rattle.placement.specs.Code.{written_of};
 
@@ -56,7 +56,7 @@ fn with_gap(
     requires sound { Sound b }
     requires ranged { Ranged (block_of b) }
     requires plan_and_prices { PlanAndPrices (block_of b) (take b.words times) (take (b.anchors + b.spans + 1) prices) }
-    ensures { Holds (Placed.answered (answerFor (block_of b) (take b.words times) (take (b.anchors + b.spans + 1) prices) passes)) b result }
+    ensures { Holds (Placed.answered (answer_for (block_of b) (take b.words times) (take (b.anchors + b.spans + 1) prices) passes)) b result }
 {
     let n = b.words;
     let k = b.anchors + b.spans + 1;
@@ -102,7 +102,7 @@ fn write_answer(p: Placement, out: &mut [u8], written: &mut u64) -> u32
     requires sound { Sound p.block }
     requires sized { Sized (answer_in p) }
     ensures written { Written (answer_in p) out.old result out.new }
-    ensures written_after { written.new ≡ fileSize p.block.words (p.block.anchors + p.block.spans + 1) }
+    ensures written_after { written.new ≡ file_size p.block.words (p.block.anchors + p.block.spans + 1) }
 {
     let b = p.block;
     let n = b.words;

@@ -6,13 +6,13 @@ use Rattle.block.specs.Block.{Block}
 use Rattle.listing.specs.Listing.{plan, refused}
 use Rattle.placement.specs.Held.{placed_of, holds-refusal, holds-answer}
 use Rattle.placement.specs.declared.Placement.{Placement}
-use Rattle.placement_listing.specs.Listing.{ofPlaced}
+use Rattle.placement_listing.specs.Listing.{of_placed}
 
 module _ (b : Block) (p : Placement) where
-  pub listing-plan : p.number ≡ 0 → plan b (take p.block.words p.times) p.gap p.passes ≡ ofPlaced b (placed_of p)
-  unfolding ofPlaced
-  listing-plan e = sym (ap (ofPlaced b) (holds-answer p e))
+  pub listing-plan : p.number ≡ 0 → plan b (take p.block.words p.times) p.gap p.passes ≡ of_placed b (placed_of p)
+  unfolding of_placed
+  listing-plan e = sym (ap (of_placed b) (holds-answer p e))
 
-  pub listing-refusal : (p.number ≡ 0 → ⊥) → refused p.number ≡ ofPlaced b (placed_of p)
-  unfolding ofPlaced
-  listing-refusal h = sym (ap (ofPlaced b) (holds-refusal p h))
+  pub listing-refusal : (p.number ≡ 0 → ⊥) → refused p.number ≡ of_placed b (placed_of p)
+  unfolding of_placed
+  listing-refusal h = sym (ap (of_placed b) (holds-refusal p h))

@@ -5,6 +5,6 @@ use Rattle.listing.specs.Listing.{plan, refused}
 use Rattle.placement.specs.Placed as Placed
 use Rattle.placement.specs.Placed.{Placed}
 
-unfoldable pub ofPlaced : Block → Placed → List ℕ
-ofPlaced b (Placed.answered a) = plan b a.times a.gap a.passes
-ofPlaced b (Placed.refused n) = refused n
+unfoldable pub of_placed : Block → Placed → List ℕ
+of_placed b (Placed.answered a) = plan b a.times a.gap a.passes
+of_placed b (Placed.refused n) = refused n

@@ -5,7 +5,7 @@ ghost use Rattle.exact.specs.Planned.{Planned};
 ghost use Rattle.listing.specs.Appended.{Listed};
 ghost use Rattle.listing.specs.Longest.{longest};
 ghost use Rattle.placement.specs.Held.{placed_of};
-ghost use Rattle.placement_listing.specs.Listing.{ofPlaced};
+ghost use Rattle.placement_listing.specs.Listing.{of_placed};
 
 use placement::Placement;
 
@@ -13,7 +13,7 @@ use placement::Placement;
 pub fn listing_of(p: Placement, out: &mut [u8]) -> usize
     requires planned { p.number ≡ 0 → Planned p.block (take p.block.words p.times) }
     requires longest_in_bounds { longest ≤ length out.old }
-    ensures { Listed (ofPlaced (block_of p.block) (placed_of p)) out.old result out.new }
+    ensures { Listed (of_placed (block_of p.block) (placed_of p)) out.old result out.new }
 {
     if p.number == 0 {
         let b = p.block;

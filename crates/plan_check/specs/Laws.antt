@@ -4,26 +4,26 @@ use Rattle.std.proofs.Math.Path.{refl, ap}
 use Rattle.std.proofs.Common.{sym, ◌∙◌, ap₂, subst, arith, le_trans, leb→le, lit≤}
 use Rattle.std.specs.Int.Signed.{le_z}
 use borrow.Author.Tests.{le-leb, eq-eqb, ne_eqb, eqb-true}
-use Rattle.folds.specs.Fold.{all, all-at, both, both-on, both-stop, both_true, pick, pick_true, pick-false}
-use Rattle.ints.specs.Diff.{diff, split, leZ-true}
+use Rattle.folds.specs.Fold.{all, all-at, both, both-on, both_stop, both_true, pick, pick_true, pick_false}
+use Rattle.ints.specs.Diff.{diff, split, le_z_true}
 use Rattle.ints.specs.Bound.{◌≼◌, loose}
 use Rattle.block.specs.Block.{Block}
 use Rattle.block.specs.Plan.{time, cost}
-use Rattle.block.specs.Finer.{costOver}
+use Rattle.block.specs.Finer.{cost_over}
 use Rattle.block.specs.Gap.{Prices, price, gap}
-use Rattle.block.specs.Ranges.{maxTime, maxPrice, Ranged}
+use Rattle.block.specs.Ranges.{max_time, max_price, Ranged}
 use Rattle.block.specs.CostBound.{cost-bound, cost-bound-over}
 use Rattle.block.specs.Fits.{gap-b}
 use Rattle.format.specs.Read as Read
 use Rattle.format.specs.declared.Block as Held
 use Rattle.format.specs.declared.Verdict.{Verdict}
-use Rattle.format.specs.Laws.{refusal-nonzero}
+use Rattle.format.specs.Laws.{refusal_nonzero}
 use Rattle.format.specs.Structs.{block_of, Sound}
 use Rattle.format.specs.Entries.{words-length, anchors-length, spans-length}
-use Rattle.gap.specs.Prices.{priceCount, pricesFrom}
-use Rattle.gap.specs.Input.{PlanAndPrices, list-priced, list-timed}
-use Rattle.plan_check.specs.Check.{gapIs, refused, between, timesIn, pricesIn, capIn, fits64, countRefusal, timeRefusal, priceRefusal, earlier}
-use Rattle.plan_check.specs.Check.{refusalFor, refusalOf, checkBlock, checkRead, check, result_of, gapAfter}
+use Rattle.gap.specs.Prices.{price_count, prices_from}
+use Rattle.gap.specs.Input.{PlanAndPrices, list_priced, list-timed}
+use Rattle.plan_check.specs.Check.{gap_is, refused, between, times_in, prices_in, cap_in, fits64, count_refusal, time_refusal, price_refusal, earlier}
+use Rattle.plan_check.specs.Check.{refusal_for, refusal_of, check_block, check_read, check, result_of, gap_after}
 use Rattle.plan_check.specs.Promise.{CostBound, Answered}
 
 -- ---- ranges
@@ -33,19 +33,19 @@ size-within = split _ λ a b. split _ λ c d. simp diff (omega arith)
 size-from : (m z : ℤ) → pos 0 ≤ℤ z → z ≤ℤ m → pos (nat_abs z) ≤ℤ m
 size-from = split _ λ a b. split _ λ c d. simp diff (omega arith)
 
-pos-le : {a b : ℕ} → pos a ≤ℤ pos b → a ≤ b
-pos-le {a} {b} h = leb→le a b h.le
+pos_le : {a b : ℕ} → pos a ≤ℤ pos b → a ≤ b
+pos_le {a} {b} h = leb→le a b h.le
 
-between-true : (l u z : ℤ) → between l u z ≡ true → (l ≤ℤ z) × (z ≤ℤ u)
+between_true : (l u z : ℤ) → between l u z ≡ true → (l ≤ℤ z) × (z ≤ℤ u)
 unfolding between
-between-true l u z e = let p = both_true (le_z l z) (le_z z u) e in (leZ-true l z p.0, leZ-true z u p.1)
+between_true l u z e = let p = both_true (le_z l z) (le_z z u) e in (le_z_true l z p.0, le_z_true z u p.1)
 
 -- from 0 to m, and from −m to m
-from_zero : (m : ℕ) (z : ℤ) → between (pos 0) (pos m) z ≡ true → nat_abs z ≤ m
-from_zero m z e = let w = between-true (pos 0) (pos m) z e in pos-le (size-from (pos m) z w.0 w.1)
+from-zero : (m : ℕ) (z : ℤ) → between (pos 0) (pos m) z ≡ true → nat_abs z ≤ m
+from-zero m z e = let w = between_true (pos 0) (pos m) z e in pos_le (size-from (pos m) z w.0 w.1)
 
 either_side : (m : ℕ) (z : ℤ) → between (neg_ℤ (pos m)) (pos m) z ≡ true → nat_abs z ≤ m
-either_side m z e = let w = between-true (neg_ℤ (pos m)) (pos m) z e in pos-le (size-within (pos m) z w.0 w.1)
+either_side m z e = let w = between_true (neg_ℤ (pos m)) (pos m) z e in pos_le (size-within (pos m) z w.0 w.1)
 
 -- ---- no refusal
 -- a row of tests that refuses with a number other than 0
@@ -64,7 +64,7 @@ module _ {r : ℕ} (a b : ℕ) where
 
   pub earlier-first : (a ≡ 0 → ⊥) → r ≡ a → r ≡ earlier a b
   unfolding earlier
-  earlier-first h f = pick-false _ _ (ne_eqb a 0 h) f
+  earlier-first h f = pick_false _ _ (ne_eqb a 0 h) f
 
 pub earlier-zero : (a b : ℕ) → earlier a b ≡ 0 → (a ≡ 0) × (b ≡ 0)
 earlier-zero zero b e = (refl, earlier-none 0 b refl refl ∙ e)
@@ -75,33 +75,33 @@ earlier-zero (suc a) b e = absurd (no₁ (earlier-first (suc a) b (λ q. omega a
 
 module _ (n m : ℕ) (x p : List ℤ) where
   -- by the cases of the code
-  pub times-wrong : (length x ≡ n → ⊥) → 9 ≡ countRefusal n m x p
-  unfolding countRefusal
-  times-wrong h = pick-false _ _ (sym (both-stop _ (ne_eqb _ _ h))) refl
+  pub times-wrong : (length x ≡ n → ⊥) → 9 ≡ count_refusal n m x p
+  unfolding count_refusal
+  times-wrong h = pick_false _ _ (sym (both_stop _ (ne_eqb _ _ h))) refl
 
-  pub prices-wrong : length x ≡ n → (length p ≡ m + 1 → ⊥) → 9 ≡ countRefusal n m x p
-  unfolding countRefusal
-  prices-wrong a h = pick-false _ _ (sym (both-on (eq-eqb _ _ a) (sym (ne_eqb _ _ h)))) refl
+  pub prices-wrong : length x ≡ n → (length p ≡ m + 1 → ⊥) → 9 ≡ count_refusal n m x p
+  unfolding count_refusal
+  prices-wrong a h = pick_false _ _ (sym (both-on (eq-eqb _ _ a) (sym (ne_eqb _ _ h)))) refl
 
-  pub counts-right : length x ≡ n → length p ≡ m + 1 → 0 ≡ countRefusal n m x p
-  unfolding countRefusal
+  pub counts-right : length x ≡ n → length p ≡ m + 1 → 0 ≡ count_refusal n m x p
+  unfolding count_refusal
   counts-right a b = pick_true _ _ (sym (both-on (eq-eqb _ _ a) (sym (eq-eqb _ _ b)))) refl
 
-  pub counted : countRefusal n m x p ≡ 0 → (length x ≡ n) × (length p ≡ m + 1)
-  unfolding countRefusal
+  pub counted : count_refusal n m x p ≡ 0 → (length x ≡ n) × (length p ≡ m + 1)
+  unfolding count_refusal
   counted e = let t = both_true _ _ (pick-zero _ 8 e) in (eqb-true _ _ t.0, eqb-true _ _ t.1)
 
 module _ (m : ℕ) (p : List ℤ) where
-  pub price-far : pricesIn m p ≡ false → 5 ≡ priceRefusal m p
-  unfolding priceRefusal
-  price-far h = pick-false _ _ (sym (both-stop _ h)) refl
+  pub price_far : prices_in m p ≡ false → 5 ≡ price_refusal m p
+  unfolding price_refusal
+  price_far h = pick_false _ _ (sym (both_stop _ h)) refl
 
-  pub cap-judged : {t : Bool} → pricesIn m p ≡ true → capIn (price p m) ≡ t → pick t 0 5 ≡ priceRefusal m p
-  unfolding priceRefusal
+  pub cap-judged : {t : Bool} → prices_in m p ≡ true → cap_in (price p m) ≡ t → pick t 0 5 ≡ price_refusal m p
+  unfolding price_refusal
   cap-judged a h = ap (λ (t : Bool). pick t 0 5) (sym h ∙ both-on a refl)
 
-pub passed : (b : Block) (x p : List ℤ) → refusalOf b x p ≡ 0 → PlanAndPrices b x p
-unfolding refusalFor timeRefusal priceRefusal timesIn pricesIn capIn
+pub passed : (b : Block) (x p : List ℤ) → refusal_of b x p ≡ 0 → PlanAndPrices b x p
+unfolding refusal_for time_refusal price_refusal times_in prices_in cap_in
 passed b x p e =
     let r = earlier-zero _ _ e in
     let s = earlier-zero _ _ r.0 in
@@ -111,85 +111,85 @@ passed b x p e =
     record {
       times = c.0;
       prices = c.1;
-      timed = record { small = λ i l. from_zero maxTime (time x i) (all-at _ i _ t l) };
-      small = λ k l. either_side maxPrice (price p k) (all-at _ k _ q.0 l);
-      cap-from = (between-true (pos 0) (pos maxPrice) (price p (priceCount b)) q.1).0;
-      cap-small = from_zero maxPrice (price p (priceCount b)) q.1;
+      timed = record { small = λ i l. from-zero max_time (time x i) (all-at _ i _ t l) };
+      small = λ k l. either_side max_price (price p k) (all-at _ k _ q.0 l);
+      cap_from = (between_true (pos 0) (pos max_price) (price p (price_count b)) q.1).0;
+      cap_small = from-zero max_price (price p (price_count b)) q.1;
     }
 
 -- by the struct's counts
-pub refusal_is : {k : Held.Block} → Sound k → (x p : List ℤ) → refusalFor k.words (k.anchors + k.spans) x p ≡ refusalOf (block_of k) x p
-refusal_is S x p =
-    ap₂ (λ (n m : ℕ). refusalFor n m x p) (sym (words-length S)) (ap₂ ◌+◌ (sym (anchors-length S)) (sym (spans-length S)))
+pub refusal-is : {k : Held.Block} → Sound k → (x p : List ℤ) → refusal_for k.words (k.anchors + k.spans) x p ≡ refusal_of (block_of k) x p
+refusal-is S x p =
+    ap₂ (λ (n m : ℕ). refusal_for n m x p) (sym (words-length S)) (ap₂ ◌+◌ (sym (anchors-length S)) (sym (spans-length S)))
 
 -- ---- the gap fits
-fits-64 : (z : ℤ) → z ≼ 9223372036854775807 → fits64 z ≡ true
+fits_64 : (z : ℤ) → z ≼ 9223372036854775807 → fits64 z ≡ true
 unfolding fits64 between both
-fits-64 (pos n) h = rw (le-leb n 9223372036854775807 h.size)
-fits-64 (negsuc n) h = rw (le-leb n 9223372036854775807 (le_trans (omega arith) h.size))
+fits_64 (pos n) h = rw (le-leb n 9223372036854775807 h.size)
+fits_64 (negsuc n) h = rw (le-leb n 9223372036854775807 (le_trans (omega arith) h.size))
 
-pub gap-fits : {b : Block} {x p : List ℤ} → Ranged b → PlanAndPrices b x p → fits64 (gap b x (pricesFrom b p)) ≡ true
-gap-fits R P = fits-64 _ (loose (lit≤ tt) (gap-b R (list-priced P) (list-timed P)))
+pub gap-fits : {b : Block} {x p : List ℤ} → Ranged b → PlanAndPrices b x p → fits64 (gap b x (prices_from b p)) ≡ true
+gap-fits R P = fits_64 _ (loose (lit≤ tt) (gap-b R (list_priced P) (list-timed P)))
 
 -- ---- and bounds the cost, of a block that was read
 pub cost-bounded : (s : List ℕ) {b : Block} → Read.read s ≡ Read.Outcome.block b → Ranged b → (x p : List ℤ) {z : ℤ}
-    → z ≡ gap b x (pricesFrom b p) → CostBound s x z
+    → z ≡ gap b x (prices_from b p) → CostBound s x z
 cost-bounded s {b} e R x p {z} q =
     record {
       block = b;
       is_read = e;
-      whole = λ y k. subst (λ (g : ℤ). (cost b x -ℤ g) ≤ℤ cost b y) (sym q) (cost-bound R x (pricesFrom b p) y k);
+      whole = λ y k. subst (λ (g : ℤ). (cost b x -ℤ g) ≤ℤ cost b y) (sym q) (cost-bound R x (prices_from b p) y k);
       fractional = λ d y k.
-          subst (λ (g : ℤ). (pos d *ℤ (pos d *ℤ cost b x)) ≤ℤ (costOver d b y +ℤ pos d *ℤ (pos d *ℤ g))) (sym q)
-          (cost-bound-over R x (pricesFrom b p) d y k);
+          subst (λ (g : ℤ). (pos d *ℤ (pos d *ℤ cost b x)) ≤ℤ (cost_over d b y +ℤ pos d *ℤ (pos d *ℤ g))) (sym q)
+          (cost-bound-over R x (prices_from b p) d y k);
     }
 
 -- ---- the check by its cases
 module _ (s : List ℕ) (x p : List ℤ) where
   check-refused : (n : ℕ) → Read.read s ≡ Read.Outcome.refused n → check s x p ≡ refused n
-  unfolding check checkRead
+  unfolding check check_read
   check-refused n e = rw e
 
   module _ (b : Block) (e : Read.read s ≡ Read.Outcome.block b) where
-    check-wrong : (refusalOf b x p ≡ 0 → ⊥) → check s x p ≡ refused (refusalOf b x p)
-    unfolding check checkRead checkBlock
-    check-wrong n = rw e (sym (pick-false (eqb (refusalOf b x p) 0) _ (ne_eqb (refusalOf b x p) 0 n) refl))
+    check-wrong : (refusal_of b x p ≡ 0 → ⊥) → check s x p ≡ refused (refusal_of b x p)
+    unfolding check check_read check_block
+    check-wrong n = rw e (sym (pick_false (eqb (refusal_of b x p) 0) _ (ne_eqb (refusal_of b x p) 0 n) refl))
 
-    check-gap : refusalOf b x p ≡ 0 → Ranged b → check s x p ≡ gapIs (gap b x (pricesFrom b p))
-    unfolding check checkRead checkBlock
+    check-gap : refusal_of b x p ≡ 0 → Ranged b → check s x p ≡ gap_is (gap b x (prices_from b p))
+    unfolding check check_read check_block
     check-gap z R =
         let f = gap-fits R (passed b x p z) in
         rw e
-        (sym (pick_true (eqb (refusalOf b x p) 0) _ (eq-eqb (refusalOf b x p) 0 z) (pick_true (fits64 (gap b x (pricesFrom b p))) _ f refl)))
+        (sym (pick_true (eqb (refusal_of b x p) 0) _ (eq-eqb (refusal_of b x p) 0 z) (pick_true (fits64 (gap b x (prices_from b p))) _ f refl)))
 
 -- ---- what the call promises, by the cases of the code
 module _ (s : List ℕ) (v : Verdict) (b : Block) (e : Read.outcome v b ≡ Read.read s) where
   is-refused : Read.accepted v ≡ false → Read.read s ≡ Read.Outcome.refused (Read.number v)
-  is-refused f = sym e ∙ sym (pick-false (Read.accepted v) (Read.Outcome.block b) f refl)
+  is-refused f = sym e ∙ sym (pick_false (Read.accepted v) (Read.Outcome.block b) f refl)
 
-  is_block : Read.accepted v ≡ true → Read.read s ≡ Read.Outcome.block b
-  is_block f = sym e ∙ sym (pick_true (Read.accepted v) (Read.Outcome.refused (Read.number v)) f refl)
+  is-block : Read.accepted v ≡ true → Read.read s ≡ Read.Outcome.block b
+  is-block f = sym e ∙ sym (pick_true (Read.accepted v) (Read.Outcome.refused (Read.number v)) f refl)
 
   module _ (x p : List ℤ) (old : ℤ) where
     refuses : (n : ℕ) {r : ℕ} → check s x p ≡ refused n → r ≡ n → (n ≡ 0 → ⊥) → Answered s x p old r old
-    unfolding result_of gapAfter
+    unfolding result_of gap_after
     refuses n c e z = record { result = rw c e; gap = rw c; bound = λ q. absurd (z (sym e ∙ q)) }
 
     -- the block is refused
-    pub block_refused : {r : ℕ} → Read.accepted v ≡ false → r ≡ Read.number v → Answered s x p old r old
-    block_refused f q = refuses (Read.number v) (check-refused s x p (Read.number v) (is-refused f)) q (refusal-nonzero v f)
+    pub block-refused : {r : ℕ} → Read.accepted v ≡ false → r ≡ Read.number v → Answered s x p old r old
+    block-refused f q = refuses (Read.number v) (check-refused s x p (Read.number v) (is-refused f)) q (refusal_nonzero v f)
 
     -- the plan or the prices are
-    pub plan-refused : {r : ℕ} → Read.accepted v ≡ true → r ≡ refusalOf b x p → (r ≡ 0 → ⊥) → Answered s x p old r old
-    plan-refused f q n = refuses (refusalOf b x p) (check-wrong s x p b (is_block f) (λ e. n (q ∙ e))) q (λ e. n (q ∙ e))
+    pub plan-refused : {r : ℕ} → Read.accepted v ≡ true → r ≡ refusal_of b x p → (r ≡ 0 → ⊥) → Answered s x p old r old
+    plan-refused f q n = refuses (refusal_of b x p) (check-wrong s x p b (is-block f) (λ e. n (q ∙ e))) q (λ e. n (q ∙ e))
 
     -- the gap
-    pub gap-given : {z : ℤ} → Read.accepted v ≡ true → Ranged b → refusalOf b x p ≡ 0 → z ≡ gap b x (pricesFrom b p) → Answered s x p old 0 z
-    unfolding result_of gapAfter
+    pub gap-given : {z : ℤ} → Read.accepted v ≡ true → Ranged b → refusal_of b x p ≡ 0 → z ≡ gap b x (prices_from b p) → Answered s x p old 0 z
+    unfolding result_of gap_after
     gap-given f R n q =
-        let c = check-gap s x p b (is_block f) n R in
+        let c = check-gap s x p b (is-block f) n R in
         record {
           result = rw c;
           gap = rw c q;
-          bound = λ _. cost-bounded s (is_block f) R x p q;
+          bound = λ _. cost-bounded s (is-block f) R x p q;
         }

@@ -4,9 +4,9 @@ use Rattle.std.specs.Prelude.{◌≡◌, List, ℕ, ℤ, pos, ◌+ℤ◌, ◌-�
 use Rattle.block.specs.Block.{Block}
 use Rattle.block.specs.Plan.{cost}
 use Rattle.block.specs.Keeps.{Keeps}
-use Rattle.block.specs.Finer.{costOver, KeepsOver}
+use Rattle.block.specs.Finer.{cost_over, KeepsOver}
 use Rattle.format.specs.Read.{Outcome, read}
-use Rattle.plan_check.specs.Check.{check, result_of, gapAfter}
+use Rattle.plan_check.specs.Check.{check, result_of, gap_after}
 
 -- of the block file s, the plan x and the gap z
 pub record CostBound (s : List ℕ) (x : List ℤ) (z : ℤ) : Type 0 where
@@ -14,10 +14,10 @@ pub record CostBound (s : List ℕ) (x : List ℤ) (z : ℤ) : Type 0 where
   pub is_read : read s ≡ Outcome.block block
   pub whole : (y : List ℤ) → Keeps block y → (cost block x -ℤ z) ≤ℤ cost block y
   pub fractional : (d : ℕ) (y : List ℤ) → KeepsOver d block y
-      → (pos d *ℤ (pos d *ℤ cost block x)) ≤ℤ (costOver d block y +ℤ pos d *ℤ (pos d *ℤ z))
+      → (pos d *ℤ (pos d *ℤ cost block x)) ≤ℤ (cost_over d block y +ℤ pos d *ℤ (pos d *ℤ z))
 
 -- of the block file s, the plan x, the prices p and the caller's gap, old at entry: the result r, and what the gap is at exit
 pub record Answered (s : List ℕ) (x p : List ℤ) (old : ℤ) (r : ℕ) (exit : ℤ) : Type 0 where
   pub result : r ≡ result_of (check s x p)
-  pub gap : exit ≡ gapAfter (check s x p) old
+  pub gap : exit ≡ gap_after (check s x p) old
   pub bound : r ≡ 0 → CostBound s x exit

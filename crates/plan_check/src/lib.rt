@@ -1,7 +1,7 @@
 // The check of anyone's plan and prices. Document 01: "block, 9, times (0 to 262,144) and prices 5, 15". The definition is specs/Check.antt.
 ghost use Rattle.std.specs.Prelude.{◌≡◌, ◌+◌, ◌≤◌, ◌<◌, length};
 ghost use Rattle.format.specs.Structs.{Sound, block_of};
-ghost use Rattle.plan_check.specs.Check.{between, timesIn, pricesIn, countRefusal, timeRefusal, priceRefusal, earlier, refusalOf};
+ghost use Rattle.plan_check.specs.Check.{between, times_in, prices_in, count_refusal, time_refusal, price_refusal, earlier, refusal_of};
 ghost use Rattle.plan_check.specs.Promise.{Answered};
 
 use format::Block;
@@ -17,7 +17,7 @@ fn between(lower: i64, upper: i64, z: i64) -> bool
 }
 
 fn times_in(times: &[i32]) -> bool
-    ensures { result ≡ timesIn times.now }
+    ensures { result ≡ times_in times.now }
 {
     let n = times.len();
     for i in 0..n {
@@ -32,7 +32,7 @@ fn times_in(times: &[i32]) -> bool
 // The first n prices, those of the anchors and spans.
 fn prices_in(prices: &[i64], n: usize) -> bool
     requires { n ≤ length prices.now }
-    ensures { result ≡ pricesIn n prices.now }
+    ensures { result ≡ prices_in n prices.now }
 {
     for k in 0..n {
         let p = prices[k];
@@ -46,7 +46,7 @@ fn prices_in(prices: &[i64], n: usize) -> bool
 // 9 for as many times or prices as the block hasn't, else 0.
 fn count_refusal(b: Block, times: &[i32], prices: &[i64]) -> u32
     requires { Sound b }
-    ensures { result ≡ countRefusal b.words (b.anchors + b.spans) times.now prices.now }
+    ensures { result ≡ count_refusal b.words (b.anchors + b.spans) times.now prices.now }
 {
     if times.len() != b.words {
         return 9;
@@ -59,7 +59,7 @@ fn count_refusal(b: Block, times: &[i32], prices: &[i64]) -> u32
 
 // 5 for a time outside its range, else 0.
 fn time_refusal(times: &[i32]) -> u32
-    ensures { result ≡ timeRefusal times.now }
+    ensures { result ≡ time_refusal times.now }
 {
     if times_in(times) { 0 } else { 5 }
 }
@@ -67,7 +67,7 @@ fn time_refusal(times: &[i32]) -> u32
 // 5 for a price outside its range, else 0: n prices of anchors and spans, then the cap's.
 fn price_refusal(prices: &[i64], n: usize) -> u32
     requires { n < length prices.now }
-    ensures { result ≡ priceRefusal n prices.now }
+    ensures { result ≡ price_refusal n prices.now }
 {
     if prices_in(prices, n) {} else {
         return 5;
@@ -86,7 +86,7 @@ fn earlier(a: u32, b: u32) -> u32
 // The refusal of times and prices for a block, 0 where there is none.
 fn refusal(b: Block, times: &[i32], prices: &[i64]) -> u32
     requires { Sound b }
-    ensures { result ≡ refusalOf (block_of b) times.now prices.now }
+    ensures { result ≡ refusal_of (block_of b) times.now prices.now }
 {
     let counts = count_refusal(b, times, prices);
     let judged = time_refusal(times);

@@ -4,29 +4,29 @@ use Rattle.std.proofs.Common.{eqb-true, leb-true}
 use Rattle.folds.specs.Fold.{pick, both, both_true, Out, out}
 use Rattle.folds.specs.Marks.{marked, rising}
 use Rattle.sizes.specs.Sizes as Sizes
-use Rattle.cholesky.specs.Cholesky.{positiveDefinite}
+use Rattle.cholesky.specs.Cholesky.{positive_definite}
 use Rattle.scaled.specs.System.{System, system}
 use Rattle.variable_set.specs.Rising.{Rising}
 use Rattle.factor_update.specs.Factor as Factor
 use Rattle.variable_set.specs.Laws.{rising-chosen}
 use Rattle.factoring.specs.Kept as Kept
-use Rattle.range_space.specs.Factored.{FactoredSolution, some, none, solveFactored}
+use Rattle.range_space.specs.Factored.{FactoredSolution, some, none, solve_factored}
 use Rattle.probe.specs.Probe.{shaped}
 
 -- all variables below n but i
-unfoldable pub allBut : (n i : ℕ) → List ℕ
-allBut n i = rising n (set (replicate Sizes.originals true) i false)
+unfoldable pub all_but : (n i : ℕ) → List ℕ
+all_but n i = rising n (set (replicate Sizes.originals true) i false)
 
-pub but-rises : (n i : ℕ) → Rising n (allBut n i)
-unfolding allBut rising
-but-rises n i = rising-chosen n (λ t. marked (set (replicate Sizes.originals true) i false) t)
+pub but_rises : (n i : ℕ) → Rising n (all_but n i)
+unfolding all_but rising
+but_rises n i = rising-chosen n (λ t. marked (set (replicate Sizes.originals true) i false) t)
 
 unfoldable pub update : (n joins leaves : ℕ) (q l : List Float) (room : ℕ) → Out (List Float)
 update n joins leaves q l room =
     pick (leb n Sizes.originals)
     (pick (ltb joins n)
     (pick (ltb leaves n)
-    (pick (shaped n (length q) (length l) n room) (Factor.updated q n (allBut n joins) l (allBut n leaves)) (out false l))
+    (pick (shaped n (length q) (length l) n room) (Factor.updated q n (all_but n joins) l (all_but n leaves)) (out false l))
     (out false l))
     (out false l))
     (out false l)
@@ -62,9 +62,9 @@ pub record Vectors (n m c b x multipliers : ℕ) : Type 0 where
   pub point : x ≡ n
   pub prices : multipliers ≡ m
 
-pub matrices-true : (n m l k e w g : ℕ) → matrices n m l k e w g ≡ true → Matrices n m l k e w g
+pub matrices_true : (n m l k e w g : ℕ) → matrices n m l k e w g ≡ true → Matrices n m l k e w g
 unfolding matrices
-matrices-true n m l k e w g t =
+matrices_true n m l k e w g t =
     let a = both_true _ _ t in
     let b = both_true _ _ a.1 in
     let c = both_true _ _ b.1 in
@@ -81,9 +81,9 @@ matrices-true n m l k e w g t =
       gram = eqb-true _ _ h.1;
     }
 
-pub vectors-true : (n m c b x multipliers : ℕ) → vectors n m c b x multipliers ≡ true → Vectors n m c b x multipliers
+pub vectors_true : (n m c b x multipliers : ℕ) → vectors n m c b x multipliers ≡ true → Vectors n m c b x multipliers
 unfolding vectors
-vectors-true n m c b x multipliers t =
+vectors_true n m c b x multipliers t =
     let a = both_true _ _ t in
     let d = both_true _ _ a.1 in
     let e = both_true _ _ d.1 in
@@ -96,6 +96,6 @@ unfoldable pub solve : (l : List Float) → System → (noise : Float) (w g x mu
 solve l (system n m k c e b) noise w g x multipliers =
     pick (matrices n m (length l) (length k) (length e) w g)
     (pick (vectors n m (length c) (length b) x multipliers)
-    (pick (positiveDefinite l n) (solveFactored l (system n m k c e b) noise) none)
+    (pick (positive_definite l n) (solve_factored l (system n m k c e b) noise) none)
     none)
     none

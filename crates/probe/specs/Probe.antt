@@ -5,7 +5,7 @@ use Rattle.std.proofs.Common.{eqb-true}
 use Rattle.folds.specs.Fold.{pick, both, both_true, Out, out}
 use Rattle.reductions.specs.Reductions as Reductions
 use Rattle.cholesky.specs.Cholesky as Cholesky
-use Rattle.eigen.specs.Eigen.{Eigen, nothing, symmetricEigen}
+use Rattle.eigen.specs.Eigen.{Eigen, nothing, symmetric_eigen}
 
 -- NaN where b is the shorter
 unfoldable pub dot : (a b : List Float) → Float
@@ -16,7 +16,7 @@ unfoldable pub shaped : (n a room values vectors : ℕ) → Bool
 shaped n a room values vectors = both (leb n 48) (both (eqb a (n * n)) (both (eqb room (n * n)) (both (eqb values n) (eqb vectors (n * n)))))
 
 unfoldable pub eigen : (n : ℕ) (a : List Float) (room values vectors : ℕ) → Eigen
-eigen n a room values vectors = pick (shaped n (length a) room values vectors) (symmetricEigen n a) nothing
+eigen n a room values vectors = pick (shaped n (length a) room values vectors) (symmetric_eigen n a) nothing
 
 -- the factor of a symmetric matrix of at most 48 rows
 unfoldable pub cholesky : (n : ℕ) (a : List Float) → Out (List Float)

@@ -7,7 +7,7 @@ ghost use Rattle.triangular.specs.Triangular.{regular};
 ghost use Rattle.eigen.specs.Eigen.{given};
 ghost use Rattle.scaled.specs.System.{system};
 ghost use Rattle.factor_update.specs.Factor as Factor;
-ghost use Rattle.range_space.specs.Factored.{solveFactored};
+ghost use Rattle.range_space.specs.Factored.{solve_factored};
 ghost use Rattle.probe.specs.Probe as Probe;
 ghost use Rattle.probe.specs.Hooks as Hooks;
 
@@ -98,8 +98,8 @@ pub extern "C" fn probe_eigen(
 // The variables below n but i, in rising order, at the start of list; how many there are.
 fn all_but(n: usize, i: usize, list: &mut [usize]) -> usize
     requires { (n ≤ Sizes.originals) × (i < n) × (n ≤ length list.old) }
-    ensures value { result ≡ length (Hooks.allBut n i) }
-    ensures list_after { list.new ≡ over (Hooks.allBut n i) list.old }
+    ensures value { result ≡ length (Hooks.all_but n i) }
+    ensures list_after { list.new ≡ over (Hooks.all_but n i) list.old }
 {
     let mut s = [true; sizes::ORIGINALS];
     s[i] = false;
@@ -121,7 +121,7 @@ fn changed(
         × (length l.old ≡ n * n)
         × (length room.old ≡ n * n) }
     ensures { out result l.new
-        ≡ Factor.updated q.now n (Hooks.allBut n joins) l.old (Hooks.allBut n leaves) }
+        ≡ Factor.updated q.now n (Hooks.all_but n joins) l.old (Hooks.all_but n leaves) }
 {
     let mut held = [0; sizes::ORIGINALS];
     let k = all_but(n, joins, &mut held);
@@ -288,7 +288,7 @@ fn solved(
         × Hooks.Vectors n m (length c.now) (length b.now) (length x.old) (length multipliers.old)
         × (regular l.now n ≡ true) }
     ensures { Hooks.answered result x.new multipliers.new
-        ≡ solveFactored l.now (system n m k.now c.now e.now b.now) noise }
+        ≡ solve_factored l.now (system n m k.now c.now e.now b.now) noise }
 {
     let mut fx = [0.0; sizes::VARIABLES];
     let mut fm = [0.0; sizes::COLUMNS];

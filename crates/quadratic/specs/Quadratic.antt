@@ -3,11 +3,11 @@
 use Rattle.std.specs.Prelude.{ℕ, ◌+◌, ◌*◌, Bool, true, List, length, leb, eqb, Float}
 use Rattle.folds.specs.Fold.{pick, both}
 use Rattle.sizes.specs.Sizes as Sizes
-use Rattle.reductions.specs.Reductions.{anyNan}
+use Rattle.reductions.specs.Reductions.{any_nan}
 
 -- the arguments: `q`, `c`, `e`, `b`, `bounds` (lower, upper and the rows' a, lower, upper), `kinks` (at, slopes), `start`
 pub data Quadratic : Type 0 where
-  quadratic : (n m r : ℕ) (q c e b lower upper a rowLower rowUpper at slopes start : List Float) → Quadratic
+  quadratic : (n m r : ℕ) (q c e b lower upper a row_lower row_upper at slopes start : List Float) → Quadratic
 
 -- ---- what is refused before the engine
 -- document 01, 'Engine sizes', and each slice as long as its counts give: the matrices with c and b, and then the lists
@@ -22,12 +22,12 @@ sized n m r q c e b a =
     (both (eqb b m)
     (eqb a (n * r))))))))
 
-unfoldable pub long : (n m r lower upper rowLower rowUpper at slopes start x multipliers : ℕ) → Bool
-long n m r lower upper rowLower rowUpper at slopes start x multipliers =
+unfoldable pub long : (n m r lower upper row_lower row_upper at slopes start x multipliers : ℕ) → Bool
+long n m r lower upper row_lower row_upper at slopes start x multipliers =
     both (eqb lower n)
     (both (eqb upper n)
-    (both (eqb rowLower r)
-    (both (eqb rowUpper r)
+    (both (eqb row_lower r)
+    (both (eqb row_upper r)
     (both (eqb at n)
     (both (eqb slopes n)
     (both (eqb start n)
@@ -35,11 +35,11 @@ long n m r lower upper rowLower rowUpper at slopes start x multipliers =
     (eqb multipliers (m + r)))))))))
 
 -- with the lengths of the slices for x and the multipliers
-unfoldable pub shaped : Quadratic → (xLength multipliersLength : ℕ) → Bool
-shaped (quadratic n m r q c e b lower upper a rowLower rowUpper at slopes start) x multipliers =
+unfoldable pub shaped : Quadratic → (x_length multipliers_length : ℕ) → Bool
+shaped (quadratic n m r q c e b lower upper a row_lower row_upper at slopes start) x multipliers =
     both (sized n m r (length q) (length c) (length e) (length b) (length a))
-    (long n m r (length lower) (length upper) (length rowLower) (length rowUpper) (length at) (length slopes) (length start) x multipliers)
+    (long n m r (length lower) (length upper) (length row_lower) (length row_upper) (length at) (length slopes) (length start) x multipliers)
 
 -- document 01, 'NaN bound of a variable or row, where the Rust panics'
-unfoldable pub blank : (n r : ℕ) (lower upper rowLower rowUpper : List Float) → Bool
-blank n r lower upper rowLower rowUpper = pick (anyNan n lower) true (pick (anyNan n upper) true (pick (anyNan r rowLower) true (anyNan r rowUpper)))
+unfoldable pub blank : (n r : ℕ) (lower upper row_lower row_upper : List Float) → Bool
+blank n r lower upper row_lower row_upper = pick (any_nan n lower) true (pick (any_nan n upper) true (pick (any_nan r row_lower) true (any_nan r row_upper)))

@@ -7,8 +7,8 @@ use Rattle.triangular.specs.Triangular.{regular}
 pub record Ranged (n m : ℕ) (l w by g : List Float) : Type 0 where
   pub few : n ≤ Sizes.originals
   pub columns : m ≤ Sizes.columns
-  pub l-holds : n * n ≤ length l
-  pub l-regular : regular l n ≡ true
-  pub w-holds : n * m ≤ length w
-  pub by-holds : m ≤ length by
-  pub g-holds : m * m ≤ length g
+  pub l_holds : n * n ≤ length l
+  pub l_regular : regular l n ≡ true
+  pub w_holds : n * m ≤ length w
+  pub by_holds : m ≤ length by
+  pub g_holds : m * m ≤ length g

@@ -50,7 +50,7 @@ fn factor_gram(w: &[f64], n: usize, m: usize, g: &mut [f64]) -> bool
 // h = L⁻¹c, over the start of y
 fn lower(l: &[f64], n: usize, c: &[f64], y: &mut [f64])
     requires { (n * n ≤ length l.now) × (Triangular.regular l.now n ≡ true) × (n ≤ length c.now) × (n ≤ length y.old) }
-    ensures { out true (take n y.new) ≡ Triangular.solveLower l.now n (Vector.copy n c.now) }
+    ensures { out true (take n y.new) ≡ Triangular.solve_lower l.now n (Vector.copy n c.now) }
 {
     vector::copy(c, n, y);
     triangular::solve_lower_triangular(l, n, &mut y[..n]);
@@ -76,7 +76,7 @@ fn scaled_multipliers(
         × (m ≤ length y.old) }
     ensures { take m y.new
         ≡ Triangular.solve g.now m
-        (Vector.sub m (Matrix.trMulVec n m w.now h.now) (Vector.div m b.now by.now)) }
+        (Vector.sub m (Matrix.tr_mul_vec n m w.now h.now) (Vector.div m b.now by.now)) }
 {
     let mut bl = [0.0; sizes::COLUMNS];
     matrix::tr_mul_vec(w, n, m, h, y);
@@ -95,8 +95,8 @@ fn upper(l: &[f64], w: &[f64], n: usize, m: usize, h: &[f64], scaled: &[f64], y:
         × (m ≤ length scaled.now)
         × (n ≤ length y.old) }
     ensures { out true (take n y.new)
-        ≡ Triangular.trSolveLower l.now n
-        (Vector.sub n h.now (Matrix.mulVec n m w.now scaled.now)) }
+        ≡ Triangular.tr_solve_lower l.now n
+        (Vector.sub n h.now (Matrix.mul_vec n m w.now scaled.now)) }
 {
     let mut ws = [0.0; sizes::ORIGINALS];
     matrix::mul_vec(w, n, m, scaled, &mut ws);
@@ -123,7 +123,7 @@ fn solve(
         × (n ≤ length x.old)
         × (m ≤ length multipliers.old) }
     ensures { Definition.some (take n x.new) (take m multipliers.new)
-        ≡ Definition.solveOnce l.now w.now by.now g.now n m c.now b.now }
+        ≡ Definition.solve_once l.now w.now by.now g.now n m c.now b.now }
 {
     let mut h = [0.0; sizes::ORIGINALS];
     let mut scaled = [0.0; sizes::COLUMNS];
@@ -152,7 +152,7 @@ fn left_of_c(
         × (m ≤ length multipliers.now)
         × (n ≤ length y.old) }
     ensures { take n y.new
-        ≡ Definition.leftOfC n m k.now c.now e.now x.now multipliers.now }
+        ≡ Definition.left_of_c n m k.now c.now e.now x.now multipliers.now }
 {
     let mut product = [0.0; sizes::ORIGINALS];
     matrix::mul_vec(k, n, n, x, &mut product);
@@ -168,7 +168,7 @@ fn left_of_b(e: &[f64], b: &[f64], n: usize, m: usize, x: &[f64], y: &mut [f64])
         × (m ≤ length b.now)
         × (n ≤ length x.now)
         × (m ≤ length y.old) }
-    ensures { take m y.new ≡ Definition.leftOfB n m e.now b.now x.now }
+    ensures { take m y.new ≡ Definition.left_of_b n m e.now b.now x.now }
 {
     let mut ex = [0.0; sizes::COLUMNS];
     matrix::tr_mul_vec(e, n, m, x, &mut ex);
@@ -227,7 +227,7 @@ fn judged(
     multipliers: &[f64],
 ) -> bool
     requires { Sized n m k.now c.now e.now b.now × (n ≤ length x.now) × (m ≤ length multipliers.now) }
-    ensures { Definition.foundOf result x.now multipliers.now
+    ensures { Definition.found_of result x.now multipliers.now
         ≡ Definition.judged (system n m k.now c.now e.now b.now) noise
         (Definition.some x.now multipliers.now) }
 {
@@ -259,7 +259,7 @@ fn solve_over(
         × Sized n m k.now c.now e.now b.now
         × (n ≤ length x.old)
         × (m ≤ length multipliers.old) }
-    ensures { Definition.foundOf result (take n x.new) (take m multipliers.new)
+    ensures { Definition.found_of result (take n x.new) (take m multipliers.new)
         ≡ Definition.judged (system n m k.now c.now e.now b.now) noise
         (Definition.refined l.now w.now by.now g.now
         (system n m k.now c.now e.now b.now)) }
@@ -308,8 +308,8 @@ fn solve_in(
         × (length g.old ≡ m * m)
         × (n ≤ length x.old)
         × (m ≤ length multipliers.old) }
-    ensures { Definition.foundOf result (take n x.new) (take m multipliers.new)
-        ≡ Definition.solveFactored l.now (system n m k.now c.now e.now b.now) noise }
+    ensures { Definition.found_of result (take n x.new) (take m multipliers.new)
+        ≡ Definition.solve_factored l.now (system n m k.now c.now e.now b.now) noise }
 {
     whiten(l, e, n, m, w);
     let by = lengths(&w[..], n, m);
@@ -356,8 +356,8 @@ pub fn solve_factored(
         × (m * m ≤ length gram.old)
         × (n ≤ length x.old)
         × (m ≤ length multipliers.old) }
-    ensures { Definition.foundOf result (take n x.new) (take m multipliers.new)
-        ≡ Definition.solveFactored l.now (system n m k.now c.now e.now b.now) noise }
+    ensures { Definition.found_of result (take n x.new) (take m multipliers.new)
+        ≡ Definition.solve_factored l.now (system n m k.now c.now e.now b.now) noise }
 {
     let entries = n * m;
     let square = m * m;

@@ -7,24 +7,24 @@ use Rattle.arith.specs.Float.{fadd, fsub, fmul, fdiv, at, sqrt}
 use Rattle.columns.specs.Columns.{cell, put}
 
 -- "for each i below j L_ij = (L_ij + s·t·v_i)/c, then v_i = c·v_i − t·L_ij with the new L_ij"
-unfoldable pub rankRow : (n j : ℕ) (s t c : Float) (i : ℕ) → Two (List Float) (List Float) → Two (List Float) (List Float)
-rankRow n j s t c i (two l v) =
+unfoldable pub rank_row : (n j : ℕ) (s t c : Float) (i : ℕ) → Two (List Float) (List Float) → Two (List Float) (List Float)
+rank_row n j s t c i (two l v) =
     let x = fdiv (fadd (cell l n i j) (fmul (fmul s t) (at v i))) c in two (put l n i j x) (set v i (fsub (fmul c (at v i)) (fmul t x)))
 
-unfoldable pub rankRows : (n j : ℕ) (s t c : Float) → Two (List Float) (List Float) → Two (List Float) (List Float)
-rankRows n j s t c x = span (j + 1) n (rankRow n j s t c) x
+unfoldable pub rank_rows : (n j : ℕ) (s t c : Float) → Two (List Float) (List Float) → Two (List Float) (List Float)
+rank_rows n j s t c x = span (j + 1) n (rank_row n j s t c) x
 
 -- "r = root(d·d + s·v_j·v_j) with d the diagonal entry"
-unfoldable pub newDiagonal : (n j : ℕ) (s : Float) (l v : List Float) → Float
-newDiagonal n j s l v = sqrt (fadd (fmul (cell l n j j) (cell l n j j)) (fmul (fmul s (at v j)) (at v j)))
+unfoldable pub new_diagonal : (n j : ℕ) (s : Float) (l v : List Float) → Float
+new_diagonal n j s l v = sqrt (fadd (fmul (cell l n j j) (cell l n j j)) (fmul (fmul s (at v j)) (at v j)))
 
 -- column j: "c = r/d, t = v_j/d; the diagonal becomes r", and the rows below change
-unfoldable pub rankColumn : (n : ℕ) (s : Float) (j : ℕ) → Two (List Float) (List Float) → Two (List Float) (List Float)
-rankColumn n s j (two l v) =
-    let d = cell l n j j in let r = newDiagonal n j s l v in rankRows n j s (fdiv (at v j) d) (fdiv r d) (two (put l n j j r) v)
+unfoldable pub rank_column : (n : ℕ) (s : Float) (j : ℕ) → Two (List Float) (List Float) → Two (List Float) (List Float)
+rank_column n s j (two l v) =
+    let d = cell l n j j in let r = new_diagonal n j s l v in rank_rows n j s (fdiv (at v j) d) (fdiv r d) (two (put l n j j r) v)
 
-unfoldable pub rankOne : (n p : ℕ) (s : Float) → Two (List Float) (List Float) → Two (List Float) (List Float)
-rankOne n p s x = span p n (rankColumn n s) x
+unfoldable pub rank_one : (n p : ℕ) (s : Float) → Two (List Float) (List Float) → Two (List Float) (List Float)
+rank_one n p s x = span p n (rank_column n s) x
 
-abbrev pub factorOf : Two (List Float) (List Float) → List Float
-factorOf (two l v) = l
+abbrev pub factor_of : Two (List Float) (List Float) → List Float
+factor_of (two l v) = l

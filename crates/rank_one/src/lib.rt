@@ -7,7 +7,7 @@ ghost use Rattle.rank_one.specs.RankOne as RankOne;
 // Row i below the diagonal of column j.
 fn rank_row(l: &mut [f64], v: &mut [f64], n: usize, j: usize, s: f64, t: f64, c: f64, i: usize)
     requires { (n * n ≤ length l.old) × (n ≤ length v.old) × (i < n) × (j < n) }
-    ensures { two l.new v.new ≡ RankOne.rankRow n j s t c i (two l.old v.old) }
+    ensures { two l.new v.new ≡ RankOne.rank_row n j s t c i (two l.old v.old) }
 {
     let x = (columns::get(&l[..], n, n, i, j) + s * t * v[i]) / c;
     columns::put(l, n, n, i, j, x);
@@ -16,7 +16,7 @@ fn rank_row(l: &mut [f64], v: &mut [f64], n: usize, j: usize, s: f64, t: f64, c:
 
 fn rank_rows(l: &mut [f64], v: &mut [f64], n: usize, j: usize, s: f64, t: f64, c: f64)
     requires { (n * n ≤ length l.old) × (n ≤ length v.old) × (j < n) }
-    ensures { two l.new v.new ≡ RankOne.rankRows n j s t c (two l.old v.old) }
+    ensures { two l.new v.new ≡ RankOne.rank_rows n j s t c (two l.old v.old) }
 {
     for i in j + 1..n {
         rank_row(l, v, n, j, s, t, c, i);
@@ -25,7 +25,7 @@ fn rank_rows(l: &mut [f64], v: &mut [f64], n: usize, j: usize, s: f64, t: f64, c
 
 fn new_diagonal(l: &[f64], v: &[f64], n: usize, j: usize, s: f64) -> f64
     requires { (n * n ≤ length l.now) × (n ≤ length v.now) × (j < n) }
-    ensures { result ≡ RankOne.newDiagonal n j s l.now v.now }
+    ensures { result ≡ RankOne.new_diagonal n j s l.now v.now }
 {
     let d = columns::get(l, n, n, j, j);
     root::sqrt(d * d + s * v[j] * v[j])
@@ -33,7 +33,7 @@ fn new_diagonal(l: &[f64], v: &[f64], n: usize, j: usize, s: f64) -> f64
 
 fn rank_column(l: &mut [f64], v: &mut [f64], n: usize, j: usize, s: f64)
     requires { (n * n ≤ length l.old) × (n ≤ length v.old) × (j < n) }
-    ensures { two l.new v.new ≡ RankOne.rankColumn n s j (two l.old v.old) }
+    ensures { two l.new v.new ≡ RankOne.rank_column n s j (two l.old v.old) }
 {
     let d = columns::get(&l[..], n, n, j, j);
     let r = new_diagonal(&l[..], &v[..], n, j, s);
@@ -45,7 +45,7 @@ fn rank_column(l: &mut [f64], v: &mut [f64], n: usize, j: usize, s: f64)
 // The rank-one step on the rows from p on; v is used up.
 pub fn rank_one(l: &mut [f64], v: &mut [f64], n: usize, p: usize, s: f64)
     requires { (n * n ≤ length l.old) × (n ≤ length v.old) × (p ≤ n) }
-    ensures { two l.new v.new ≡ RankOne.rankOne n p s (two l.old v.old) }
+    ensures { two l.new v.new ≡ RankOne.rank_one n p s (two l.old v.old) }
 {
     for j in p..n {
         rank_column(l, v, n, j, s);

@@ -1,25 +1,25 @@
 -- Laws of the definitions: the direction has n elements, and what a function's calls leave, put together.
 use Rattle.std.specs.Prelude.{◌≡◌, refl, List, ℕ, ◌*◌, Float}
 use Rattle.vector.specs.Vector.{divided}
-use Rattle.matrix.specs.Matrix.{columnsDivided}
-use Rattle.scaled.specs.Scaled.{kScale, columnScales}
+use Rattle.matrix.specs.Matrix.{columns_divided}
+use Rattle.scaled.specs.Scaled.{k_scale, column_scales}
 use Rattle.scaled.specs.declared.Scale.{Scale}
 use Rattle.scaled.specs.declared.Scale.TheVariants.{By, Refused}
-use Rattle.scaled_ray.specs.ScaledRay.{rayScaled}
-use Rattle.scaled_ray.specs.Laws.{Fills, scaled-fills}
-use Rattle.ray.specs.Ray.{rayBy, withScale, descentRay}
+use Rattle.scaled_ray.specs.ScaledRay.{ray_scaled}
+use Rattle.scaled_ray.specs.Laws.{Fills, scaled_fills}
+use Rattle.ray.specs.Ray.{ray_by, with_scale, descent_ray}
 
-with-fills : (n m : ℕ) (q c e : List Float) (s : Scale) → Fills n (withScale n m q c e s)
-unfolding withScale rayBy
-with-fills n m q c e (By scale) = scaled-fills n m _ c _
-with-fills n m q c e Refused = refl
+with_fills : (n m : ℕ) (q c e : List Float) (s : Scale) → Fills n (with_scale n m q c e s)
+unfolding with_scale ray_by
+with_fills n m q c e (By scale) = scaled_fills n m _ c _
+with_fills n m q c e Refused = refl
 
-pub fills : (n m : ℕ) (q c e : List Float) → Fills n (descentRay n m q c e)
-unfolding descentRay
-fills n m q c e = with-fills n m q c e (kScale n q)
+pub fills : (n m : ℕ) (q c e : List Float) → Fills n (descent_ray n m q c e)
+unfolding descent_ray
+fills n m q c e = with_fills n m q c e (k_scale n q)
 
 -- what the calls leave
-pub by-from : {columns ks es : List Float} (n m : ℕ) (q c e : List Float) (scale : Float) → columns ≡ columnScales n m e →
-    ks ≡ divided (n * n) q scale → es ≡ columnsDivided n m e columns → rayScaled n m ks c es ≡ rayBy n m q c e scale
-unfolding rayBy
-by-from n m q c e scale f g h = rw (h, g, f)
+pub by_from : {columns ks es : List Float} (n m : ℕ) (q c e : List Float) (scale : Float) → columns ≡ column_scales n m e →
+    ks ≡ divided (n * n) q scale → es ≡ columns_divided n m e columns → ray_scaled n m ks c es ≡ ray_by n m q c e scale
+unfolding ray_by
+by_from n m q c e scale f g h = rw (h, g, f)

@@ -1,20 +1,20 @@
 -- qp.rs, `descent_ray`. Q is n by n, E is n by m; c has n elements.
 use Rattle.std.specs.Prelude.{ℕ, ◌*◌, List, Float}
 use Rattle.vector.specs.Vector.{divided}
-use Rattle.matrix.specs.Matrix.{columnsDivided}
-use Rattle.scaled.specs.Scaled.{kScale, columnScales}
+use Rattle.matrix.specs.Matrix.{columns_divided}
+use Rattle.scaled.specs.Scaled.{k_scale, column_scales}
 use Rattle.scaled.specs.declared.Scale.{Scale}
 use Rattle.scaled.specs.declared.Scale.TheVariants.{By, Refused}
-use Rattle.scaled_ray.specs.ScaledRay.{Descent, noDescent, rayScaled}
+use Rattle.scaled_ray.specs.ScaledRay.{Descent, no_descent, ray_scaled}
 
 -- with Q over its scale and each column of E over its own; c stays
-unfoldable pub rayBy : (n m : ℕ) (q c e : List Float) (scale : Float) → Descent
-rayBy n m q c e scale = rayScaled n m (divided (n * n) q scale) c (columnsDivided n m e (columnScales n m e))
+unfoldable pub ray_by : (n m : ℕ) (q c e : List Float) (scale : Float) → Descent
+ray_by n m q c e scale = ray_scaled n m (divided (n * n) q scale) c (columns_divided n m e (column_scales n m e))
 
 -- `Scaled::new(q, e)?`
-unfoldable pub withScale : (n m : ℕ) (q c e : List Float) → Scale → Descent
-withScale n m q c e (By scale) = rayBy n m q c e scale
-withScale n m q c e Refused = noDescent
+unfoldable pub with_scale : (n m : ℕ) (q c e : List Float) → Scale → Descent
+with_scale n m q c e (By scale) = ray_by n m q c e scale
+with_scale n m q c e Refused = no_descent
 
-unfoldable pub descentRay : (n m : ℕ) (q c e : List Float) → Descent
-descentRay n m q c e = withScale n m q c e (kScale n q)
+unfoldable pub descent_ray : (n m : ℕ) (q c e : List Float) → Descent
+descent_ray n m q c e = with_scale n m q c e (k_scale n q)

@@ -1,7 +1,7 @@
 // qp.rs, `descent_ray`. Q is n by n, E is n by m, with up to 32 variables and 24 columns. The `&mut` slices are work memory.
 ghost use Rattle.std.specs.Prelude.{◌≡◌, ◌≤◌, ◌*◌, length};
 ghost use Rattle.sizes.specs.Sizes as Sizes;
-ghost use Rattle.scaled_ray.specs.ScaledRay.{rayOf};
+ghost use Rattle.scaled_ray.specs.ScaledRay.{ray_of};
 ghost use Rattle.ray.specs.Ray as Definition;
 
 use scaled::Scale;
@@ -31,7 +31,7 @@ fn ray_by_in(
         × (n * m ≤ length coefficients.old)
         × (n * m ≤ length range.old)
         × (n * n ≤ length null.old) }
-    ensures { rayOf n result ≡ Definition.rayBy n m q.now c.now e.now scale }
+    ensures { ray_of n result ≡ Definition.ray_by n m q.now c.now e.now scale }
 {
     let columns = scaled::column_scales(e, n, m);
     let square = n * n;
@@ -58,7 +58,7 @@ fn ray_by_small(q: &[f64], c: &[f64], e: &[f64], n: usize, m: usize, scale: f64)
         × (n * m ≤ length e.now)
         × (n ≤ Sizes.few)
         × (m ≤ Sizes.few) }
-    ensures { rayOf n result ≡ Definition.rayBy n m q.now c.now e.now scale }
+    ensures { ray_of n result ≡ Definition.ray_by n m q.now c.now e.now scale }
 {
     let mut ks = [0.0; sizes::SMALL];
     let mut es = [0.0; sizes::SMALL];
@@ -86,7 +86,7 @@ fn ray_by_large(q: &[f64], c: &[f64], e: &[f64], n: usize, m: usize, scale: f64)
         × (n * n ≤ length q.now)
         × (n ≤ length c.now)
         × (n * m ≤ length e.now) }
-    ensures { rayOf n result ≡ Definition.rayBy n m q.now c.now e.now scale }
+    ensures { ray_of n result ≡ Definition.ray_by n m q.now c.now e.now scale }
 {
     let mut ks = [0.0; sizes::SQUARE];
     let mut es = [0.0; sizes::TALL];
@@ -115,7 +115,7 @@ fn ray_by(q: &[f64], c: &[f64], e: &[f64], n: usize, m: usize, scale: f64) -> Ra
         × (n * n ≤ length q.now)
         × (n ≤ length c.now)
         × (n * m ≤ length e.now) }
-    ensures { rayOf n result ≡ Definition.rayBy n m q.now c.now e.now scale }
+    ensures { ray_of n result ≡ Definition.ray_by n m q.now c.now e.now scale }
 {
     if n <= sizes::FEW {
         if m <= sizes::FEW {
@@ -131,7 +131,7 @@ pub fn descent_ray(q: &[f64], c: &[f64], e: &[f64], n: usize, m: usize) -> Ray
         × (n * n ≤ length q.now)
         × (n ≤ length c.now)
         × (n * m ≤ length e.now) }
-    ensures { rayOf n result ≡ Definition.descentRay n m q.now c.now e.now }
+    ensures { ray_of n result ≡ Definition.descent_ray n m q.now c.now e.now }
 {
     match scaled::k_scale(q, n) {
         Scale::By(scale) => ray_by(q, c, e, n, m, scale),

@@ -3,8 +3,8 @@
 ghost use Rattle.std.specs.Prelude.{◌≡◌, length};
 ghost use Rattle.segments.specs.Segments.{AllCut};
 ghost use Rattle.free_list.specs.FreeList.{Ends};
-ghost use Rattle.scaled_ray.specs.ScaledRay.{rayOf};
-ghost use Rattle.iterate.specs.Iterate.{passedOf, Consistent};
+ghost use Rattle.scaled_ray.specs.ScaledRay.{ray_of};
+ghost use Rattle.iterate.specs.Iterate.{passed_of, Consistent};
 ghost use Rattle.full_step.specs.FullStep.{Split};
 ghost use Rattle.ray_step.specs.RayStep as RayStep;
 
@@ -29,9 +29,9 @@ pub fn on_ray(
         × Consistent counts.n segments iterate
         × Split counts.originals counts.n counts.m e.now iterate.board.state indices.now solved.now slacks.now
         × Ends counts.n segments iterate.board.state lower.now upper.now }
-    ensures result_value { passedOf counts.n counts.m result
-        ≡ RayStep.onRay counts.originals counts.n counts.m e.now segments solved.now slacks.now iterate
-        (rayOf (length solved.now) ray) }
+    ensures result_value { passed_of counts.n counts.m result
+        ≡ RayStep.on_ray counts.originals counts.n counts.m e.now segments solved.now slacks.now iterate
+        (ray_of (length solved.now) ray) }
     ensures consistent { Consistent counts.n segments result.iterate }
 {
     if ray.found {

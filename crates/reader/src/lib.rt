@@ -54,7 +54,7 @@ fn empty() -> Block
 }
 
 fn end_verdict(last: u64, words: usize) -> Verdict
-    ensures { result ≡ Read.endVerdict last words }
+    ensures { result ≡ Read.end_verdict last words }
 {
     if words < 1 {
         return Verdict::OutOfOrder;

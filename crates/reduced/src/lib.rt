@@ -36,7 +36,7 @@ pub fn reduced_gradient(
         × (n ≤ length c.now)
         × (n * d ≤ length z.now)
         × (n ≤ length x.now) }
-    ensures { take d result ≡ Definition.reducedGradient n d k.now c.now z.now x.now }
+    ensures { take d result ≡ Definition.reduced_gradient n d k.now c.now z.now x.now }
 {
     let g = gradient(k, c, x, n);
     dense::tr_mul_vec(z, n, d, &g[..n])
@@ -83,7 +83,7 @@ pub fn reduced_hessian(
         × (n * n ≤ length room.old)
         × (n * n ≤ length h.old)
         × (n * n ≤ length vectors.old) }
-    ensures { Definition.hessianOf d result vectors.new ≡ Definition.reducedHessian n d k.now z.now }
+    ensures { Definition.hessian_of d result vectors.new ≡ Definition.reduced_hessian n d k.now z.now }
 {
     let mut values = [0.0; sizes::VARIABLES];
     let square = d * d;
@@ -111,7 +111,7 @@ fn range_one(values: &[f64], vectors: &[f64], d: usize, gradient: &[f64], j: usi
         × (j < d)
         × (length v.old ≡ d) }
     ensures { v.new
-        ≡ Definition.rangeOne d values.now vectors.now gradient.now j v.old }
+        ≡ Definition.range_one d values.now vectors.now gradient.now j v.old }
 {
     let w = columns::column(vectors, d, d, j);
     vector::add_scaled(v, d, w, reductions::dot(w, gradient, d) / values[j]);
@@ -132,7 +132,7 @@ fn range_each(
         × Below (length range.now) range.now d
         × (length v.old ≡ d) }
     ensures { v.new
-        ≡ Definition.rangeEach d values.now vectors.now gradient.now range.now v.old }
+        ≡ Definition.range_each d values.now vectors.now gradient.now range.now v.old }
 {
     for i in 0..range.len() {
         range_one(values, vectors, d, gradient, range[i], v);
@@ -152,7 +152,7 @@ pub fn range_part(
         × (d * d ≤ length vectors.now)
         × (d ≤ length gradient.now) }
     ensures { take d result
-        ≡ Definition.rangePart d values.now vectors.now cutoff gradient.now }
+        ≡ Definition.range_part d values.now vectors.now cutoff gradient.now }
 {
     let mut range = [0; sizes::VARIABLES];
     let mut v = [0.0; sizes::VARIABLES];

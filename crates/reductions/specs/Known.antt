@@ -5,8 +5,8 @@ use Rattle.std.specs.Float.Ieee.{neg, add, mul, div, eq, lt, is_nan, of_int, of_
 use Rattle.folds.specs.Fold.{fold, pick, some}
 use Rattle.root.specs.Root.{root}
 use Rattle.arith.specs.Float.{fromℕ}
-use Rattle.arith.specs.Scalar.{abs, max, isInfinite}
-use Rattle.reductions.specs.Reductions.{dot, sumSquares, norm, amax, anyNan, quotientSquares, scaledNorm}
+use Rattle.arith.specs.Scalar.{abs, max, is_infinite}
+use Rattle.reductions.specs.Reductions.{dot, sum_squares, norm, amax, any_nan, quotient_squares, scaled_norm}
 
 -- (1, 2, 3) · (4, 5, 6) is 32
 of-dot : dot 3 (fromℕ 1 ∷ fromℕ 2 ∷ fromℕ 3 ∷ []) (fromℕ 4 ∷ fromℕ 5 ∷ fromℕ 6 ∷ []) ≡ fromℕ 32
@@ -15,11 +15,11 @@ of-dot = refl
 
 -- the length of (3, 4) is 5, either way
 of-norm : norm 2 (fromℕ 3 ∷ fromℕ 4 ∷ []) ≡ fromℕ 5
-unfolding norm sumSquares fold add mul root of_int of_bits
+unfolding norm sum_squares fold add mul root of_int of_bits
 of-norm = refl
 
-of-scaled-norm : scaledNorm 2 (fromℕ 3 ∷ fromℕ 4 ∷ []) ≡ fromℕ 5
-unfolding scaledNorm anyNan quotientSquares amax max abs isInfinite pick some fold add mul div eq lt is_nan root of_int of_bits
+of-scaled-norm : scaled_norm 2 (fromℕ 3 ∷ fromℕ 4 ∷ []) ≡ fromℕ 5
+unfolding scaled_norm any_nan quotient_squares amax max abs is_infinite pick some fold add mul div eq lt is_nan root of_int of_bits
 of-scaled-norm = refl
 
 -- amax passes over NaN

@@ -15,7 +15,7 @@ pub fn dot(a: &[f64], b: &[f64], n: usize) -> f64
 
 pub fn sum_squares(a: &[f64], n: usize) -> f64
     requires { n ≤ length a.now }
-    ensures { result ≡ Reductions.sumSquares n a.now }
+    ensures { result ≡ Reductions.sum_squares n a.now }
 {
     let mut s = 0.0;
     for k in 0..n {
@@ -49,7 +49,7 @@ pub fn amax(a: &[f64], n: usize) -> f64
 
 pub fn any_nan(a: &[f64], n: usize) -> bool
     requires { n ≤ length a.now }
-    ensures { result ≡ Reductions.anyNan n a.now }
+    ensures { result ≡ Reductions.any_nan n a.now }
 {
     for k in 0..n {
         if arith::is_nan(a[k]) {
@@ -61,7 +61,7 @@ pub fn any_nan(a: &[f64], n: usize) -> bool
 
 pub fn all_finite(a: &[f64], n: usize) -> bool
     requires { n ≤ length a.now }
-    ensures { result ≡ Reductions.allFinite n a.now }
+    ensures { result ≡ Reductions.all_finite n a.now }
 {
     for k in 0..n {
         if !arith::is_finite(a[k]) {
@@ -73,7 +73,7 @@ pub fn all_finite(a: &[f64], n: usize) -> bool
 
 fn quotient_squares(a: &[f64], n: usize, by: f64) -> f64
     requires { n ≤ length a.now }
-    ensures { result ≡ Reductions.quotientSquares n a.now by }
+    ensures { result ≡ Reductions.quotient_squares n a.now by }
 {
     let mut s = 0.0;
     for k in 0..n {
@@ -86,7 +86,7 @@ fn quotient_squares(a: &[f64], n: usize, by: f64) -> f64
 // qp.rs's `norm`, computed over the largest element so that squaring doesn't overflow.
 pub fn scaled_norm(a: &[f64], n: usize) -> f64
     requires { n ≤ length a.now }
-    ensures { result ≡ Reductions.scaledNorm n a.now }
+    ensures { result ≡ Reductions.scaled_norm n a.now }
 {
     if any_nan(a, n) {
         return arith::nan();
@@ -103,7 +103,7 @@ pub fn scaled_norm(a: &[f64], n: usize) -> f64
 
 pub fn total_abs(a: &[f64], n: usize) -> f64
     requires { n ≤ length a.now }
-    ensures { result ≡ Reductions.totalAbs n a.now }
+    ensures { result ≡ Reductions.total_abs n a.now }
 {
     let mut s = 0.0;
     for k in 0..n {

@@ -4,7 +4,7 @@ use Rattle.std.specs.Float.Ieee.{lt, eq, is_nan, of_bits}
 use Rattle.folds.specs.Fold.{pick, both}
 use Rattle.folds.specs.Best.{nothing, found, better}
 use Rattle.arith.specs.Float.{f1, f2}
-use Rattle.arith.specs.Scalar.{totalLess, negative}
+use Rattle.arith.specs.Scalar.{total_less, negative}
 use Rattle.releasing.specs.declared.Descent.TheVariants.{Into}
 use Rattle.releasing.specs.declared.Fastest.TheVariants.{Found, Nothing}
 use Rattle.releasing.specs.declared.Outcome.TheVariants.{Enter, Answer, NotConverged}
@@ -14,7 +14,7 @@ use Rattle.releasing.specs.Release.{offered, at_least, outcome}
 of-better : (better at_least (found (f1, 0, 0)) (found (f1, 5, 1)) ≡ found (f1, 5, 1))
     × (better at_least (found (f2, 0, 0)) (found (f1, 5, 1)) ≡ found (f2, 0, 0))
     × (offered true (Into f2 1) 5 ≡ nothing)
-unfolding better offered totalLess pick both lt eq is_nan negative of_bits
+unfolding better offered total_less pick both lt eq is_nan negative of_bits
 of-better = (refl, refl, refl)
 
 -- with nobody entering, one that is refused tells a stop from the answer

@@ -3,10 +3,10 @@ use Rattle.std.specs.Prelude.{ℕ, ◌-◌, Bool, true, false, not, List, ltb, g
 use Rattle.std.specs.Float.{binary64}
 use Rattle.std.specs.Float.Ieee.{of_bits, lt}
 use Rattle.folds.specs.Fold.{pick, some}
-use Rattle.folds.specs.Best.{Best, nothing, found, lastLargest}
+use Rattle.folds.specs.Best.{Best, nothing, found, last_largest}
 use Rattle.arith.specs.Float.{fadd, fmul, fneg, at}
-use Rattle.arith.specs.Scalar.{totalLess}
-use Rattle.segments.specs.Segments.{last, segmentsAt, stateAt}
+use Rattle.arith.specs.Scalar.{total_less}
+use Rattle.segments.specs.Segments.{last, segments_at, state_at}
 use Rattle.segments.specs.declared.Segments.{Segments}
 use Rattle.segments.specs.declared.State.{State}
 use Rattle.segments.specs.declared.State.TheVariants.{At, Free}
@@ -35,23 +35,23 @@ unfoldable pub or_else : (first second : Descent) → Descent
 or_else (Into rate segment) second = Into rate segment
 or_else Nowhere second = second
 
-unfoldable pub heldDescent : (s : Segments) (p : ℕ) (nu least : Float) → Descent
-heldDescent s p nu least = or_else (up s p nu least) (down s p nu least)
+unfoldable pub held_descent : (s : Segments) (p : ℕ) (nu least : Float) → Descent
+held_descent s p nu least = or_else (up s p nu least) (down s p nu least)
 
 -- `let State::At(p) = state[i] else { return None; }`
-unfoldable pub ofState : (state : State) (s : Segments) (nu least : Float) → Descent
-ofState (At p) s nu least = heldDescent s p nu least
-ofState (Free j) s nu least = Nowhere
+unfoldable pub of_state : (state : State) (s : Segments) (nu least : Float) → Descent
+of_state (At p) s nu least = held_descent s p nu least
+of_state (Free j) s nu least = Nowhere
 
 -- `.filter(|&i| !fixed[i])`
-unfoldable pub wrongOne : (fixed : Bool) (state : State) (s : Segments) (nu least : Float) → Descent
-wrongOne fixed state s nu least = pick fixed Nowhere (ofState state s nu least)
+unfoldable pub wrong_one : (fixed : Bool) (state : State) (s : Segments) (nu least : Float) → Descent
+wrong_one fixed state s nu least = pick fixed Nowhere (of_state state s nu least)
 
 -- of variable i: `let nu = gradient[i] + pushback[i];`
 unfoldable pub wrong : (segments : List Segments) (state : List Spot) (fixed : List Bool) (gradient pushback : List Float) (least : Float)
     (i : ℕ) → Descent
 wrong segments state fixed gradient pushback least i =
-    wrongOne (get_or fixed i false) (stateAt state i) (segmentsAt segments i) (fadd (at gradient i) (at pushback i)) least
+    wrong_one (get_or fixed i false) (state_at state i) (segments_at segments i) (fadd (at gradient i) (at pushback i)) least
 
 -- what variable i offers: `.filter(|&&(_, i, _)| !refused[i])`
 unfoldable pub offered : (refused : Bool) (wrong : Descent) (i : ℕ) → Best (Float × ℕ × ℕ)
@@ -65,32 +65,32 @@ offers segments state fixed refused gradient pushback least i =
     offered (get_or refused i false) (wrong segments state fixed gradient pushback least i) i
 
 -- the code's enum is the source's `Option<(f64, usize, usize)>`
-unfoldable pub asBest : Fastest → Best (Float × ℕ × ℕ)
-asBest (Found rate i segment) = found (rate, i, segment)
-asBest Nothing = nothing
+unfoldable pub as_best : Fastest → Best (Float × ℕ × ℕ)
+as_best (Found rate i segment) = found (rate, i, segment)
+as_best Nothing = nothing
 
-unfoldable pub asFastest : Best (Float × ℕ × ℕ) → Fastest
-asFastest (found f) = Found f.0 f.1 f.2
-asFastest nothing = Nothing
+unfoldable pub as_fastest : Best (Float × ℕ × ℕ) → Fastest
+as_fastest (found f) = Found f.0 f.1 f.2
+as_fastest nothing = Nothing
 
 abbrev pub at_least : (new old : Float × ℕ × ℕ) → Bool
-at_least new old = not (totalLess new.0 old.0)
+at_least new old = not (total_less new.0 old.0)
 
 -- `wrong.iter().filter(..).max_by(|a, b| a.0.total_cmp(&b.0))`: of equal rates the last
 unfoldable pub entering : (n : ℕ) (segments : List Segments) (state : List Spot) (fixed refused : List Bool) (gradient pushback : List Float)
     (least : Float) → Fastest
 entering n segments state fixed refused gradient pushback least =
-    asFastest (lastLargest (λ a b. totalLess a.0 b.0) n (offers segments state fixed refused gradient pushback least))
+    as_fastest (last_largest (λ a b. total_less a.0 b.0) n (offers segments state fixed refused gradient pushback least))
 
 -- `Some(_)`
-unfoldable pub isInto : Descent → Bool
-isInto (Into rate segment) = true
-isInto Nowhere = false
+unfoldable pub is_into : Descent → Bool
+is_into (Into rate segment) = true
+is_into Nowhere = false
 
 -- `!wrong.is_empty()`
-unfoldable pub anyWrong : (n : ℕ) (segments : List Segments) (state : List Spot) (fixed : List Bool) (gradient pushback : List Float)
+unfoldable pub any_wrong : (n : ℕ) (segments : List Segments) (state : List Spot) (fixed : List Bool) (gradient pushback : List Float)
     (least : Float) → Bool
-anyWrong n segments state fixed gradient pushback least = some n (λ i. isInto (wrong segments state fixed gradient pushback least i))
+any_wrong n segments state fixed gradient pushback least = some n (λ i. is_into (wrong segments state fixed gradient pushback least i))
 
 -- `match entering { Some(..) => .., None if wrong.is_empty() => return Ok(x), None => return Err(NotConverged) }`
 unfoldable pub outcome : Fastest → Bool → Outcome
@@ -106,4 +106,4 @@ unfoldable pub release : (n : ℕ) (segments : List Segments) (state : List Spot
     (scale : Float) → Outcome
 release n segments state fixed refused gradient pushback scale =
     let least = fmul tiny scale in
-    outcome (entering n segments state fixed refused gradient pushback least) (anyWrong n segments state fixed gradient pushback least)
+    outcome (entering n segments state fixed refused gradient pushback least) (any_wrong n segments state fixed gradient pushback least)

@@ -4,7 +4,7 @@ ghost use Rattle.folds.specs.Best.{found, better};
 ghost use Rattle.sizes.specs.Sizes as Sizes;
 ghost use Rattle.segments.specs.Segments.{Cut, Placed, AllCut, AllPlaced, last as last_of};
 ghost use Rattle.releasing.specs.Release as Rule;
-ghost use Rattle.releasing.specs.Release.{asBest, at_least};
+ghost use Rattle.releasing.specs.Release.{as_best, at_least};
 
 use segments::{Segments, Spot, State};
 
@@ -61,7 +61,7 @@ fn or_else(first: Descent, second: Descent) -> Descent
 // Up before down.
 fn held_descent(s: Segments, p: usize, nu: f64, least: f64) -> Descent
     requires { Cut s × (p ≤ last_of s) }
-    ensures { result ≡ Rule.heldDescent s p nu least }
+    ensures { result ≡ Rule.held_descent s p nu least }
 {
     or_else(up(s, p, nu, least), down(s, p, nu, least))
 }
@@ -69,7 +69,7 @@ fn held_descent(s: Segments, p: usize, nu: f64, least: f64) -> Descent
 // Of one that is neither fixed nor free.
 fn wrong_one(fixed: bool, spot: Spot, s: Segments, nu: f64, least: f64) -> Descent
     requires { Cut s × Placed s spot.state }
-    ensures { result ≡ Rule.wrongOne fixed spot.state s nu least }
+    ensures { result ≡ Rule.wrong_one fixed spot.state s nu least }
 {
     if fixed {
         return Descent::Nowhere;
@@ -90,7 +90,7 @@ pub enum Fastest {
 
 // The larger of two rates, and the last where they are equal.
 fn faster(best: Fastest, i: usize, rate: f64, segment: usize) -> Fastest
-    ensures { asBest result ≡ better at_least (asBest best) (found (rate, i, segment)) }
+    ensures { as_best result ≡ better at_least (as_best best) (found (rate, i, segment)) }
 {
     let Fastest::Found(largest, _, _) = best else {
         return Fastest::Found(rate, i, segment);
@@ -103,7 +103,7 @@ fn faster(best: Fastest, i: usize, rate: f64, segment: usize) -> Fastest
 
 // Variable i, unless it is refused.
 fn faster_one(refused: bool, wrong: Descent, i: usize, best: Fastest) -> Fastest
-    ensures { asBest result ≡ better at_least (asBest best) (Rule.offered refused wrong i) }
+    ensures { as_best result ≡ better at_least (as_best best) (Rule.offered refused wrong i) }
 {
     if refused {
         return best;
@@ -116,7 +116,7 @@ fn faster_one(refused: bool, wrong: Descent, i: usize, best: Fastest) -> Fastest
 
 // Whether this one would lower the objective, or one before it.
 fn any_so_far(wrong: Descent, any: bool) -> bool
-    ensures { result ≡ cond (Rule.isInto wrong) true any }
+    ensures { result ≡ cond (Rule.is_into wrong) true any }
 {
     match wrong {
         Descent::Into(_, _) => true,
@@ -151,7 +151,7 @@ fn wrong_ones(
         × AllPlaced n segments state }
     ensures { (result.entering
         ≡ Rule.entering n segments state fixed.now refused.now gradient.now pushback.now least)
-        × (result.any ≡ Rule.anyWrong n segments state fixed.now gradient.now pushback.now least) }
+        × (result.any ≡ Rule.any_wrong n segments state fixed.now gradient.now pushback.now least) }
 {
     let mut best = Fastest::Nothing;
     let mut any = false;

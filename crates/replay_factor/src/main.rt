@@ -123,7 +123,7 @@ fn update(s: &[u8], q: &[f64], n: usize, originals: usize, l: &mut [f64], w: Seq
 }
 
 fn reset(s: &[u8], w: Sequence) -> Sequence
-    ensures { Kept.keptOf result.kept ≡ Kept.reset (Kept.keptOf w.kept) }
+    ensures { Kept.kept_of result.kept ≡ Kept.reset (Kept.kept_of w.kept) }
 {
     let mut then = w;
     let kept = w.kept;

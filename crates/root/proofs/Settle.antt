@@ -79,8 +79,8 @@ half-fits q p = lt_of_le_of_lt (mul-le-mul {n₂ = 2 ^ 27 - 1} {m₂ = 2 ^ 27 - 
 pub middle-fits : (q : ℕ) → q < 2 ^ 53 → 2 * (q / 2 ^ 26) * (q % 2 ^ 26) < 2 ^ 54
 middle-fits q p = lt_of_le_of_lt (mul-le-mul {n₂ = 2 ^ 28 - 2} {m₂ = 2 ^ 26 - 1} (omega arith) (omega arith)) (lit< tt)
 
-pub low_fits : (q : ℕ) → q % 2 ^ 26 * (q % 2 ^ 26) < 2 ^ 52
-low_fits q = lt_of_le_of_lt (mul-le-mul {n₂ = 2 ^ 26 - 1} {m₂ = 2 ^ 26 - 1} (omega arith) (omega arith)) (lit< tt)
+pub low-fits : (q : ℕ) → q % 2 ^ 26 * (q % 2 ^ 26) < 2 ^ 52
+low-fits q = lt_of_le_of_lt (mul-le-mul {n₂ = 2 ^ 26 - 1} {m₂ = 2 ^ 26 - 1} (omega arith) (omega arith)) (lit< tt)
 
 pub root-fits : (m : ℕ) → m < 2 ^ 54 → isqrt (m * 2 ^ 54) < 2 ^ 54
 root-fits m h =
@@ -89,8 +89,8 @@ root-fits m h =
     root-lt (lt_of_le_of_lt i.0 (lt_of_le_of_lt b (lit< tt)))
 
 -- the pattern that `guess` starts from is no NaN's
-pub start-no-nan : (m k : ℕ) → m < 2 ^ 53 → k < 2 → T (not (nan_bits binary64 (m + (1022 + k) * 2 ^ 52)))
-start-no-nan m k h j =
+pub start_no_nan : (m k : ℕ) → m < 2 ^ 53 → k < 2 → T (not (nan_bits binary64 (m + (1022 + k) * 2 ^ 52)))
+start_no_nan m k h j =
     let b = m + (1022 + k) * 2 ^ 52 in
     let l : b ≤ 2047 * 2 ^ 52 = omega arith in
     subst (λ (t : Bool). T (not t)) (sym (nan_bits_above binary64 b ∙ le-ltb (2047 * 2 ^ 52) (b % 2 ^ 63) (le_trans (mod-le b (2 ^ 63)) l))) tt

@@ -5,17 +5,17 @@ use Rattle.std.specs.Float.{nan, inf, fin, Format}
 use Rattle.root.specs.Root.{root}
 
 module _ (f : Format) where
-  pub root-nan : root f nan ≡ nan
+  pub root_nan : root f nan ≡ nan
   unfolding root
-  root-nan = refl
+  root_nan = refl
 
-  pub root-infinite : root f (inf false) ≡ inf false
+  pub root_infinite : root f (inf false) ≡ inf false
   unfolding root
-  root-infinite = refl
+  root_infinite = refl
 
-  pub root-minus-infinite : root f (inf true) ≡ nan
+  pub root-minus_infinite : root f (inf true) ≡ nan
   unfolding root
-  root-minus-infinite = refl
+  root-minus_infinite = refl
 
   -- the sign stays
   pub root-zero : (s : Bool) (e : ℤ) → root f (fin s 0 e) ≡ fin s 0 e

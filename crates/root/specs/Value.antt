@@ -22,12 +22,12 @@ unfolding of_bits
 fields b = refl
 
 -- a number of units, by the exponent's field and the digits
-abbrev by-fields : ℕ → ℕ → ℕ
-by-fields zero t = t * 2 ^ 0
-by-fields (suc x) t = (2 ^ 52 + t) * 2 ^ x
+abbrev by_fields : ℕ → ℕ → ℕ
+by_fields zero t = t * 2 ^ 0
+by_fields (suc x) t = (2 ^ 52 + t) * 2 ^ x
 
 -- 2047 is the field of the infinities and NaN
-value : (s : Bool) (E t : ℕ) → (E ≡ 2047 → ⊥) → HasValue (of_fields binary64 s E t) s (by-fields E t) (2 ^ 1074)
+value : (s : Bool) (E t : ℕ) → (E ≡ 2047 → ⊥) → HasValue (of_fields binary64 s E t) s (by_fields E t) (2 ^ 1074)
 unfolding of_fields
 value s zero t h = odd_sign 53 s t 0 1074
 value s (suc x) t h =
@@ -35,7 +35,7 @@ value s (suc x) t h =
     (sym (ne_eqb (suc x) 2047 h))
     (odd_sign 53 s (2 ^ 52 + t) x 1074)
 
-same : (b E : ℕ) → b / 2 ^ 52 ≡ E → by-fields E (b % 2 ^ 52) ≡ magnitude b
+same : (b E : ℕ) → b / 2 ^ 52 ≡ E → by_fields E (b % 2 ^ 52) ≡ magnitude b
 same b zero e =
     let h : b < 2 ^ 52 = omega arith in
     mul-one (b % 2 ^ 52) ∙ mod-eq_of_lt h ∙ sym (low-magnitude b h)

@@ -9,26 +9,26 @@ use Rattle.angle.specs.Angle.{angle}
 use Rattle.angle.specs.declared.Turn.{Turn}
 
 -- `a[(k, p)] = c * akp - s * akq`, `a[(k, q)] = s * akp + c * akq`
-unfoldable pub turnInRow : (n p q : ℕ) → Turn → (k : ℕ) (a : List Float) → List Float
-turnInRow n p q t k a =
+unfoldable pub turn_in_row : (n p q : ℕ) → Turn → (k : ℕ) (a : List Float) → List Float
+turn_in_row n p q t k a =
     put (put a n k p (fsub (fmul t.c (cell a n k p)) (fmul t.s (cell a n k q)))) n k q
     (fadd (fmul t.s (cell a n k p)) (fmul t.c (cell a n k q)))
 
 -- `a[(p, k)] = c * apk - s * aqk`, `a[(q, k)] = s * apk + c * aqk`
-unfoldable pub turnInColumn : (n p q : ℕ) → Turn → (k : ℕ) (a : List Float) → List Float
-turnInColumn n p q t k a =
+unfoldable pub turn_in_column : (n p q : ℕ) → Turn → (k : ℕ) (a : List Float) → List Float
+turn_in_column n p q t k a =
     put (put a n p k (fsub (fmul t.c (cell a n p k)) (fmul t.s (cell a n q k)))) n q k
     (fadd (fmul t.s (cell a n p k)) (fmul t.c (cell a n q k)))
 
-unfoldable pub turnColumns : (n p q : ℕ) → Turn → (a : List Float) → List Float
-turnColumns n p q t a = fold n (turnInRow n p q t) a
+unfoldable pub turn_columns : (n p q : ℕ) → Turn → (a : List Float) → List Float
+turn_columns n p q t a = fold n (turn_in_row n p q t) a
 
-unfoldable pub turnRows : (n p q : ℕ) → Turn → (a : List Float) → List Float
-turnRows n p q t a = fold n (turnInColumn n p q t) a
+unfoldable pub turn_rows : (n p q : ℕ) → Turn → (a : List Float) → List Float
+turn_rows n p q t a = fold n (turn_in_column n p q t) a
 
 -- A ← JᵀAJ, then `a[(p, q)] = 0.0`, `a[(q, p)] = 0.0`
 unfoldable pub turned : (n p q : ℕ) → Turn → (a : List Float) → List Float
-turned n p q t a = put (put (turnRows n p q t (turnColumns n p q t a)) n p q f0) n q p f0
+turned n p q t a = put (put (turn_rows n p q t (turn_columns n p q t a)) n p q f0) n q p f0
 
 -- A and V
 abbrev pub State : Type 0
@@ -37,4 +37,4 @@ State = Two (List Float) (List Float)
 -- A ← JᵀAJ and V ← VJ; `if apq == 0.0 { return; }`
 unfoldable pub rotate : (n p q : ℕ) → State → State
 rotate n p q (two a v) =
-    pick (eq (cell a n p q) f0) (two a v) (two (turned n p q (angle n p q a) a) (turnColumns n p q (angle n p q a) v))
+    pick (eq (cell a n p q) f0) (two a v) (two (turned n p q (angle n p q a) a) (turn_columns n p q (angle n p q a) v))

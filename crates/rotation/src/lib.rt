@@ -7,7 +7,7 @@ use angle::Turn;
 
 fn turn_in_row(a: &mut [f64], n: usize, p: usize, q: usize, t: Turn, k: usize)
     requires { (n * n ≤ length a.old) × (p < n) × (q < n) × (k < n) }
-    ensures { a.new ≡ Rotation.turnInRow n p q t k a.old }
+    ensures { a.new ≡ Rotation.turn_in_row n p q t k a.old }
 {
     let akp = columns::get(&a[..], n, n, k, p);
     let akq = columns::get(&a[..], n, n, k, q);
@@ -17,7 +17,7 @@ fn turn_in_row(a: &mut [f64], n: usize, p: usize, q: usize, t: Turn, k: usize)
 
 fn turn_in_column(a: &mut [f64], n: usize, p: usize, q: usize, t: Turn, k: usize)
     requires { (n * n ≤ length a.old) × (p < n) × (q < n) × (k < n) }
-    ensures { a.new ≡ Rotation.turnInColumn n p q t k a.old }
+    ensures { a.new ≡ Rotation.turn_in_column n p q t k a.old }
 {
     let apk = columns::get(&a[..], n, n, p, k);
     let aqk = columns::get(&a[..], n, n, q, k);
@@ -27,7 +27,7 @@ fn turn_in_column(a: &mut [f64], n: usize, p: usize, q: usize, t: Turn, k: usize
 
 fn turn_columns(a: &mut [f64], n: usize, p: usize, q: usize, t: Turn)
     requires { (n * n ≤ length a.old) × (p < n) × (q < n) }
-    ensures { a.new ≡ Rotation.turnColumns n p q t a.old }
+    ensures { a.new ≡ Rotation.turn_columns n p q t a.old }
 {
     for k in 0..n {
         turn_in_row(a, n, p, q, t, k);
@@ -36,7 +36,7 @@ fn turn_columns(a: &mut [f64], n: usize, p: usize, q: usize, t: Turn)
 
 fn turn_rows(a: &mut [f64], n: usize, p: usize, q: usize, t: Turn)
     requires { (n * n ≤ length a.old) × (p < n) × (q < n) }
-    ensures { a.new ≡ Rotation.turnRows n p q t a.old }
+    ensures { a.new ≡ Rotation.turn_rows n p q t a.old }
 {
     for k in 0..n {
         turn_in_column(a, n, p, q, t, k);

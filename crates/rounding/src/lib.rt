@@ -1,7 +1,7 @@
 // What the service writes of the engine's numbers: times and prices. The definitions are specs/Rounding.antt.
 ghost use Rattle.std.specs.Prelude.{◌≡◌, ◌+◌, ◌≤◌, length};
-ghost use Rattle.block.specs.Ranges.{maxWords, maxAnchors, maxSpans};
-ghost use Rattle.rounding.specs.Rounding.{held, priceOf, capPriceOf};
+ghost use Rattle.block.specs.Ranges.{max_words, max_anchors, max_spans};
+ghost use Rattle.rounding.specs.Rounding.{held, price_of, cap_price_of};
 ghost use Rattle.rounding.specs.Lists.{time, TimesOf, PricesOf};
 
 use nearest::{Rounded, nearest};
@@ -60,7 +60,7 @@ fn held(n: i64) -> i64
 
 // A price: to the nearest whole number, held in its range; 0 for what is not finite.
 fn price_of(x: f64) -> i64
-    ensures { result ≡ priceOf x }
+    ensures { result ≡ price_of x }
 {
     if arith::is_finite(x) {} else {
         return 0;
@@ -74,7 +74,7 @@ fn price_of(x: f64) -> i64
 
 // The cap's price, from 0.
 fn cap_price_of(x: f64) -> i64
-    ensures { result ≡ capPriceOf x }
+    ensures { result ≡ cap_price_of x }
 {
     let p = price_of(x);
     if p < 0 {
@@ -85,7 +85,7 @@ fn cap_price_of(x: f64) -> i64
 
 // The written times of the engine's weights.
 pub fn times_of(x: &[f64]) -> Times
-    requires { length x.now ≤ maxWords }
+    requires { length x.now ≤ max_words }
     ensures { TimesOf x.now result }
 {
     let mut times = [0i32; WORDS];
@@ -107,7 +107,7 @@ pub fn times_of(x: &[f64]) -> Times
 
 // The written prices of the multipliers and of the accepted raise: anchors, spans, cap.
 pub fn prices_of(multipliers: &[f64], raise: f64) -> [i64; PRICES]
-    requires { length multipliers.now ≤ maxAnchors + maxSpans }
+    requires { length multipliers.now ≤ max_anchors + max_spans }
     ensures { PricesOf multipliers.now raise result }
 {
     let mut prices = [0i64; PRICES];

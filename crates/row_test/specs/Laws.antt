@@ -3,10 +3,10 @@ use Rattle.std.specs.Prelude.{◌≡◌, true, List, ℕ, ◌<◌, Float}
 use Rattle.folds.specs.Fold.{all-at}
 use Rattle.arith.specs.Float.{at}
 use Rattle.columns.specs.Columns.{column}
-use Rattle.row_test.specs.Limits.{meetsRow, meetsRows}
+use Rattle.row_test.specs.Limits.{meets_row, meets_rows}
 
 -- a point that meets the rows meets each
-pub meetsRows-at : (n r : ℕ) (x a rowLower rowUpper : List Float) (j : ℕ) → j < r → meetsRows n r x a rowLower rowUpper ≡ true →
-    meetsRow n x (column n a j) (at rowLower j) (at rowUpper j) ≡ true
-unfolding meetsRows
-meetsRows-at n r x a rowLower rowUpper j h e = all-at r j _ e h
+pub meets_rows-at : (n r : ℕ) (x a row_lower row_upper : List Float) (j : ℕ) → j < r → meets_rows n r x a row_lower row_upper ≡ true →
+    meets_row n x (column n a j) (at row_lower j) (at row_upper j) ≡ true
+unfolding meets_rows
+meets_rows-at n r x a row_lower row_upper j h e = all-at r j _ e h

@@ -9,8 +9,8 @@ use Rattle.columns.specs.Columns.{column}
 use Rattle.units.specs.Units.{rounding}
 
 -- `a.iter().zip(x.iter()).map(|(a, x)| (a * x).abs()).sum()`
-unfoldable pub rowTerms : (n : ℕ) (a x : List Float) → Float
-rowTerms n a x = sum n (λ i. abs (fmul (at a i) (at x i)))
+unfoldable pub row_terms : (n : ℕ) (a x : List Float) → Float
+row_terms n a x = sum n (λ i. abs (fmul (at a i) (at x i)))
 
 -- `lower - 1e-8 * (terms + lower.abs()) <= sum && sum <= upper + 1e-8 * (terms + upper.abs())`
 unfoldable pub within : (total terms lower upper : Float) → Bool
@@ -18,8 +18,8 @@ within total terms lower upper =
     both (le (fsub lower (fmul rounding (fadd terms (abs lower)))) total) (le total (fadd upper (fmul rounding (fadd terms (abs upper)))))
 
 -- `let sum = a.dot(&x)`
-unfoldable pub meetsRow : (n : ℕ) (x a : List Float) (lower upper : Float) → Bool
-meetsRow n x a lower upper = within (dot n a x) (rowTerms n a x) lower upper
+unfoldable pub meets_row : (n : ℕ) (x a : List Float) (lower upper : Float) → Bool
+meets_row n x a lower upper = within (dot n a x) (row_terms n a x) lower upper
 
-unfoldable pub meetsRows : (n r : ℕ) (x a rowLower rowUpper : List Float) → Bool
-meetsRows n r x a rowLower rowUpper = all r (λ j. meetsRow n x (column n a j) (at rowLower j) (at rowUpper j))
+unfoldable pub meets_rows : (n r : ℕ) (x a row_lower row_upper : List Float) → Bool
+meets_rows n r x a row_lower row_upper = all r (λ j. meets_row n x (column n a j) (at row_lower j) (at row_upper j))

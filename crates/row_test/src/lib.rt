@@ -4,7 +4,7 @@ ghost use Rattle.row_test.specs.Limits as Limits;
 
 fn row_terms(a: &[f64], x: &[f64], n: usize) -> f64
     requires { (n ≤ length a.now) × (n ≤ length x.now) }
-    ensures { result ≡ Limits.rowTerms n a.now x.now }
+    ensures { result ≡ Limits.row_terms n a.now x.now }
 {
     let mut s = 0.0;
     for i in 0..n {
@@ -25,7 +25,7 @@ fn within(sum: f64, terms: f64, lower: f64, upper: f64) -> bool
 
 fn meets_row(x: &[f64], a: &[f64], lower: f64, upper: f64, n: usize) -> bool
     requires { (n ≤ length x.now) × (n ≤ length a.now) }
-    ensures { result ≡ Limits.meetsRow n x.now a.now lower upper }
+    ensures { result ≡ Limits.meets_row n x.now a.now lower upper }
 {
     let sum = reductions::dot(a, x, n);
     let terms = row_terms(a, x, n);
@@ -46,7 +46,7 @@ pub fn meets_rows(
         × (r ≤ length row_lower.now)
         × (r ≤ length row_upper.now) }
     ensures { result
-        ≡ Limits.meetsRows n r x.now a.now row_lower.now row_upper.now }
+        ≡ Limits.meets_rows n r x.now a.now row_lower.now row_upper.now }
 {
     for j in 0..r {
         if meets_row(

@@ -10,10 +10,10 @@ pub data System : Type 0 where
 pub record Sized (n m : ℕ) (k c e b : List Float) : Type 0 where
   pub few : n ≤ Sizes.originals
   pub columns : m ≤ Sizes.columns
-  pub k-holds : n * n ≤ length k
-  pub c-holds : n ≤ length c
-  pub e-holds : n * m ≤ length e
-  pub b-holds : m ≤ length b
+  pub k_holds : n * n ≤ length k
+  pub c_holds : n ≤ length c
+  pub e_holds : n * m ≤ length e
+  pub b_holds : m ≤ length b
 
 -- how many entries K and E have at most
 pub square-fits : {n m : ℕ} {k c e b : List Float} → Sized n m k c e b → n * n ≤ 1024

@@ -2,7 +2,7 @@
 ghost use Rattle.std.specs.Prelude.{◌≡◌, ◌≤◌, ◌<◌, ◌*◌, length, take};
 ghost use Rattle.folds.specs.Fold.{over};
 ghost use Rattle.sizes.specs.Sizes as Sizes;
-ghost use Rattle.matrix.specs.Matrix.{columnsDivided};
+ghost use Rattle.matrix.specs.Matrix.{columns_divided};
 ghost use Rattle.scaled.specs.System.{Sized, system};
 ghost use Rattle.scaled.specs.Scaled as Definition;
 
@@ -104,7 +104,7 @@ pub fn kkt_residual(
 ) -> Residual
     requires { Sized n m k.now c.now e.now b.now × (n ≤ length x.now) × (m ≤ length multipliers.now) }
     ensures { result
-        ≡ Definition.kktResidual (system n m k.now c.now e.now b.now)
+        ≡ Definition.kkt_residual (system n m k.now c.now e.now b.now)
         x.now multipliers.now noise }
 {
     let residual = stationarity(k, c, e, x, multipliers, n, m) + feasibility(e, b, x, n, m);
@@ -117,7 +117,7 @@ pub fn kkt_residual(
 
 // ∞ ≤ ∞ holds, so a check that overflows would pass.
 pub fn within_rounding(r: Residual) -> Rounding
-    ensures { result ≡ Definition.withinRounding r }
+    ensures { result ≡ Definition.within_rounding r }
 {
     if arith::is_finite(r.residual) {
         if arith::is_finite(r.size) {
@@ -133,7 +133,7 @@ pub fn within_rounding(r: Residual) -> Rounding
 // A zero K, as the free block of a linear objective is, keeps scale 1.
 pub fn k_scale(k: &[f64], n: usize) -> Scale
     requires { n * n ≤ length k.now }
-    ensures { result ≡ Definition.kScale n k.now }
+    ensures { result ≡ Definition.k_scale n k.now }
 {
     let average = matrix::trace(k, n) / arith::from_usize(n);
     if average == 0.0 {
@@ -148,7 +148,7 @@ pub fn k_scale(k: &[f64], n: usize) -> Scale
 }
 
 fn above_0_or_1(s: f64) -> f64
-    ensures { result ≡ Definition.above0Or1 s }
+    ensures { result ≡ Definition.above0_or1 s }
 {
     if s > 0.0 {
         return s;
@@ -158,7 +158,7 @@ fn above_0_or_1(s: f64) -> f64
 
 fn above_0_or_1_each(y: &mut [f64], n: usize)
     requires { n ≤ length y.old }
-    ensures { y.new ≡ over (Definition.above0Or1Each n y.old) y.old }
+    ensures { y.new ≡ over (Definition.above0_or1_each n y.old) y.old }
 {
     for i in 0..n {
         y[i] = above_0_or_1(y[i]);
@@ -167,7 +167,7 @@ fn above_0_or_1_each(y: &mut [f64], n: usize)
 
 pub fn column_scales(e: &[f64], n: usize, m: usize) -> [f64; sizes::COLUMNS]
     requires { (m ≤ Sizes.columns) × (n * m ≤ length e.now) }
-    ensures { take m result ≡ Definition.columnScales n m e.now }
+    ensures { take m result ≡ Definition.column_scales n m e.now }
 {
     let mut y = [0.0; sizes::COLUMNS];
     columns::columns_amax(e, n, m, &mut y);
@@ -182,7 +182,7 @@ pub fn scaled_e(e: &[f64], n: usize, m: usize, scales: &[f64], y: &mut [f64])
         × (n * m ≤ length e.now)
         × (m ≤ length scales.now)
         × (n * m ≤ length y.old) }
-    ensures { y.new ≡ over (columnsDivided n m e.now scales.now) y.old }
+    ensures { y.new ≡ over (columns_divided n m e.now scales.now) y.old }
 {
     vector::copy(e, n * m, y);
     matrix::divide_columns(y, n, m, scales);

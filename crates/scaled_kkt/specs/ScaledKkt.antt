@@ -1,9 +1,9 @@
 -- qp.rs, `solve_noisy_kkt`: the solve of a system that is scaled. K is n by n, E is n by m; c and x have n elements, b and the multipliers m.
 use Rattle.std.specs.Prelude.{ℕ, ◌-◌, List, take, Float}
 use Rattle.folds.specs.Fold.{pick}
-use Rattle.constraints.specs.Constraints.{Constraints, constraints, new, smallestFeasible, multipliers}
+use Rattle.constraints.specs.Constraints.{Constraints, constraints, new, smallest_feasible, multipliers}
 use Rattle.scaled.specs.System.{System, system}
-use Rattle.reduced.specs.Reduced.{Reduced, reduced, none, gradient, reducedGradient, reducedHessian, rangePart, moved}
+use Rattle.reduced.specs.Reduced.{Reduced, reduced, none, gradient, reduced_gradient, reduced_hessian, range_part, moved}
 use Rattle.solution.specs.Solution.{Kkt, singular, judged}
 use Rattle.scaled_kkt.specs.declared.Point.{Point}
 
@@ -15,26 +15,26 @@ pub data Least : Type 0 where
 -- `x0 + z * v`
 unfoldable pub stepped : (n d : ℕ) (k c z x0 : List Float) → Reduced → Least
 stepped n d k c z x0 (reduced values vectors cutoff) =
-    least (moved n d x0 z (rangePart d values vectors cutoff (reducedGradient n d k c z x0)))
+    least (moved n d x0 z (range_part d values vectors cutoff (reduced_gradient n d k c z x0)))
 stepped n d k c z x0 none = unknown
 
 unfoldable pub minimum : (n d : ℕ) (k c z x0 : List Float) → Least
-minimum n d k c z x0 = stepped n d k c z x0 (reducedHessian n d k z)
+minimum n d k c z x0 = stepped n d k c z x0 (reduced_hessian n d k z)
 
 unfoldable pub point_of : (n : ℕ) → Point → Least
 point_of n r = pick r.found (least (take n r.x)) unknown
 
 -- ---- the solve
 -- the multipliers at x, and the check of both; `reduced_hessian(k, z)?`
-unfoldable pub checkedAt : System → (noise : Float) → Constraints → Least → Kkt
-checkedAt (system n m k c e b) noise (constraints rank range null coefficients pivots) (least x) =
+unfoldable pub checked_at : System → (noise : Float) → Constraints → Least → Kkt
+checked_at (system n m k c e b) noise (constraints rank range null coefficients pivots) (least x) =
     judged (system n m k c e b) x (multipliers n m range coefficients (gradient n k c x) pivots rank) noise
-checkedAt (system n m k c e b) noise (constraints rank range null coefficients pivots) unknown = singular
+checked_at (system n m k c e b) noise (constraints rank range null coefficients pivots) unknown = singular
 
-unfoldable pub solveOver : System → (noise : Float) → Constraints → Kkt
-solveOver (system n m k c e b) noise (constraints rank range null coefficients pivots) =
-    checkedAt (system n m k c e b) noise (constraints rank range null coefficients pivots)
-    (minimum n (n - rank) k c null (smallestFeasible n m range coefficients b pivots rank))
+unfoldable pub solve_over : System → (noise : Float) → Constraints → Kkt
+solve_over (system n m k c e b) noise (constraints rank range null coefficients pivots) =
+    checked_at (system n m k c e b) noise (constraints rank range null coefficients pivots)
+    (minimum n (n - rank) k c null (smallest_feasible n m range coefficients b pivots rank))
 
-unfoldable pub solveScaled : System → (noise : Float) → Kkt
-solveScaled (system n m k c e b) noise = solveOver (system n m k c e b) noise (new n m e)
+unfoldable pub solve_scaled : System → (noise : Float) → Kkt
+solve_scaled (system n m k c e b) noise = solve_over (system n m k c e b) noise (new n m e)

@@ -5,7 +5,7 @@ ghost use Rattle.sizes.specs.Sizes as Sizes;
 ghost use Rattle.vector.specs.Vector.{Below};
 ghost use Rattle.constraints.specs.Constraints.{constraints};
 ghost use Rattle.scaled.specs.System.{Sized, system};
-ghost use Rattle.solution.specs.Solution.{solutionOf};
+ghost use Rattle.solution.specs.Solution.{solution_of};
 ghost use Rattle.scaled_kkt.specs.ScaledKkt as Definition;
 
 use solution::{KktVerdict, Solution};
@@ -123,8 +123,8 @@ fn solve_over(
         × (min n m * m ≤ length coefficients.now)
         × (rank ≤ length pivots.now)
         × Below rank pivots.now m }
-    ensures { solutionOf n m result
-        ≡ Definition.solveOver (system n m k.now c.now e.now b.now) noise
+    ensures { solution_of n m result
+        ≡ Definition.solve_over (system n m k.now c.now e.now b.now) noise
         (constraints rank range.now null.now coefficients.now pivots.now) }
 {
     let x0 = constraints::smallest_feasible(range, coefficients, n, m, b, pivots, rank);
@@ -163,8 +163,8 @@ pub fn solve_scaled(
         × (n * m ≤ length coefficients.old)
         × (n * m ≤ length range.old)
         × (n * n ≤ length null.old) }
-    ensures { solutionOf n m result
-        ≡ Definition.solveScaled (system n m k.now c.now e.now b.now) noise }
+    ensures { solution_of n m result
+        ≡ Definition.solve_scaled (system n m k.now c.now e.now b.now) noise }
 {
     let pivots = constraints::new(e, n, m, coefficients, range, null);
     let column = pivots.column;

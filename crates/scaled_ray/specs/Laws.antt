@@ -1,59 +1,59 @@
 -- Laws of the definitions: the direction has n elements, and what a function's calls leave, put together.
 use Rattle.std.specs.Prelude.{◌≡◌, refl, true, false, List, ℕ, ◌-◌, ◌*◌, length, take, Float}
-use Rattle.folds.specs.Fold.{pick, pick-keep}
+use Rattle.folds.specs.Fold.{pick, pick_keep}
 use Rattle.constraints.specs.Constraints.{Constraints, constraints, new}
 use Rattle.reduced.specs.declared.Hessian.{Hessian}
-use Rattle.reduced.specs.Reduced.{Reduced, reduced, none, reducedHessian, hessianOf}
+use Rattle.reduced.specs.Reduced.{Reduced, reduced, none, reduced_hessian, hessian_of}
 use Rattle.reduced.specs.Laws.{hessian-found, hessian-none}
-use Rattle.null_part.specs.NullPart.{nullPart}
-use Rattle.null_part.specs.Laws.{length-nullPart}
+use Rattle.null_part.specs.NullPart.{null_part}
+use Rattle.null_part.specs.Laws.{length-null_part}
 use Rattle.scaled_ray.specs.declared.Ray.{Ray}
-use Rattle.scaled_ray.specs.ScaledRay.{Descent, descent, noDescent, rayOf, beyondRounding, rayAlong, rayOver, rayIn, rayScaled}
+use Rattle.scaled_ray.specs.ScaledRay.{Descent, descent, no_descent, ray_of, beyond_rounding, ray_along, ray_over, ray_in, ray_scaled}
 
 -- ---- lengths
 -- a direction of n elements, if there is one
 abbrev pub Fills : (n : ℕ) → Descent → Type 0
 Fills n (descent direction) = length direction ≡ n
-Fills n noDescent = n ≡ n
+Fills n no_descent = n ≡ n
 
-beyond-fills : (n : ℕ) (direction c : List Float) → length direction ≡ n → Fills n (beyondRounding n direction c)
-unfolding beyondRounding
-beyond-fills n direction c e = pick-keep (Fills n) _ refl (pick-keep (Fills n) _ refl e)
+beyond_fills : (n : ℕ) (direction c : List Float) → length direction ≡ n → Fills n (beyond_rounding n direction c)
+unfolding beyond_rounding
+beyond_fills n direction c e = pick_keep (Fills n) _ refl (pick_keep (Fills n) _ refl e)
 
-along-fills : (n d : ℕ) (c z : List Float) (h : Reduced) → Fills n (rayAlong n d c z h)
-unfolding rayAlong
-along-fills n d c z (reduced values vectors cutoff) = beyond-fills n _ c (length-nullPart n d values vectors cutoff z c)
-along-fills n d c z none = refl
+along_fills : (n d : ℕ) (c z : List Float) (h : Reduced) → Fills n (ray_along n d c z h)
+unfolding ray_along
+along_fills n d c z (reduced values vectors cutoff) = beyond_fills n _ c (length-null_part n d values vectors cutoff z c)
+along_fills n d c z none = refl
 
-in-fills : (n : ℕ) (k c : List Float) (o : Constraints) → Fills n (rayIn n k c o)
-unfolding rayIn rayOver
-in-fills n k c (constraints rank range z coefficients pivots) = along-fills n _ c z _
+in_fills : (n : ℕ) (k c : List Float) (o : Constraints) → Fills n (ray_in n k c o)
+unfolding ray_in ray_over
+in_fills n k c (constraints rank range z coefficients pivots) = along_fills n _ c z _
 
-pub scaled-fills : (n m : ℕ) (k c e : List Float) → Fills n (rayScaled n m k c e)
-unfolding rayScaled
-scaled-fills n m k c e = in-fills n k c (new n m e)
+pub scaled_fills : (n m : ℕ) (k c e : List Float) → Fills n (ray_scaled n m k c e)
+unfolding ray_scaled
+scaled_fills n m k c e = in_fills n k c (new n m e)
 
 -- ---- a ray, by whether it was found
-pub ray-found : (n : ℕ) (r : Ray) → r.found ≡ true → rayOf n r ≡ descent (take n r.direction)
-unfolding rayOf pick
-ray-found n r e = rw e
+pub ray_found : (n : ℕ) (r : Ray) → r.found ≡ true → ray_of n r ≡ descent (take n r.direction)
+unfolding ray_of pick
+ray_found n r e = rw e
 
-pub ray-none : (n : ℕ) (r : Ray) → r.found ≡ false → rayOf n r ≡ noDescent
-unfolding rayOf pick
-ray-none n r e = rw e
+pub ray_none : (n : ℕ) (r : Ray) → r.found ≡ false → ray_of n r ≡ no_descent
+unfolding ray_of pick
+ray_none n r e = rw e
 
 -- ---- what the calls leave
 module _ (n d : ℕ) (k c z vectors : List Float) (h : Hessian) where
-  pub over-found : {direction : List Float} → h.found ≡ true → hessianOf d h vectors ≡ reducedHessian n d k z →
-      direction ≡ nullPart n d (take d h.values) (take (d * d) vectors) h.cutoff z c → beyondRounding n direction c ≡ rayOver n d k c z
-  unfolding rayOver rayAlong
+  pub over-found : {direction : List Float} → h.found ≡ true → hessian_of d h vectors ≡ reduced_hessian n d k z →
+      direction ≡ null_part n d (take d h.values) (take (d * d) vectors) h.cutoff z c → beyond_rounding n direction c ≡ ray_over n d k c z
+  unfolding ray_over ray_along
   over-found f g e = rw (← g, hessian-found d h vectors f, e)
 
-  pub over_none : h.found ≡ false → hessianOf d h vectors ≡ reducedHessian n d k z → noDescent ≡ rayOver n d k c z
-  unfolding rayOver rayAlong
-  over_none f g = rw (← g, hessian-none d h vectors f)
+  pub over-none : h.found ≡ false → hessian_of d h vectors ≡ reduced_hessian n d k z → no_descent ≡ ray_over n d k c z
+  unfolding ray_over ray_along
+  over-none f g = rw (← g, hessian-none d h vectors f)
 
 pub scaled-from : {rank : ℕ} {range z coefficients : List Float} {pivots : List ℕ} (n m : ℕ) (k c e : List Float) →
-    constraints rank range z coefficients pivots ≡ new n m e → rayOver n (n - rank) k c z ≡ rayScaled n m k c e
-unfolding rayScaled rayIn
+    constraints rank range z coefficients pivots ≡ new n m e → ray_over n (n - rank) k c z ≡ ray_scaled n m k c e
+unfolding ray_scaled ray_in
 scaled-from n m k c e g = rw (← g)

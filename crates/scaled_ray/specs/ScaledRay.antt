@@ -4,43 +4,43 @@ use Rattle.std.specs.Float.{binary64}
 use Rattle.std.specs.Float.Ieee.{le, eq, of_bits}
 use Rattle.folds.specs.Fold.{pick}
 use Rattle.arith.specs.Float.{fmul, f0}
-use Rattle.reductions.specs.Reductions.{scaledNorm}
+use Rattle.reductions.specs.Reductions.{scaled_norm}
 use Rattle.constraints.specs.Constraints.{Constraints, constraints, new}
-use Rattle.reduced.specs.Reduced.{Reduced, reduced, none, reducedHessian}
-use Rattle.null_part.specs.NullPart.{nullPart}
+use Rattle.reduced.specs.Reduced.{Reduced, reduced, none, reduced_hessian}
+use Rattle.null_part.specs.NullPart.{null_part}
 use Rattle.scaled_ray.specs.declared.Ray.{Ray}
 
 -- `Ok(direction)`, and `Err(CutupError::SingularCovariance)`
 pub data Descent : Type 0 where
   descent : (direction : List Float) → Descent
-  noDescent : Descent
+  no_descent : Descent
 
 -- what counts of what the code leaves
-unfoldable pub rayOf : (n : ℕ) → Ray → Descent
-rayOf n r = pick r.found (descent (take n r.direction)) noDescent
+unfoldable pub ray_of : (n : ℕ) → Ray → Descent
+ray_of n r = pick r.found (descent (take n r.direction)) no_descent
 
 -- ---- `if length <= 1e-12 * norm(c) || length == 0.0`
 -- 1e-12
 abbrev pub tolerance : Float
 tolerance = of_bits binary64 0x3d71_9799_812d_ea11
 
-unfoldable pub beyondRounding : (n : ℕ) (direction c : List Float) → Descent
-beyondRounding n direction c =
-    let length = scaledNorm n direction in
-    pick (le length (fmul tolerance (scaledNorm n c))) noDescent (pick (eq length f0) noDescent (descent direction))
+unfoldable pub beyond_rounding : (n : ℕ) (direction c : List Float) → Descent
+beyond_rounding n direction c =
+    let length = scaled_norm n direction in
+    pick (le length (fmul tolerance (scaled_norm n c))) no_descent (pick (eq length f0) no_descent (descent direction))
 
 -- ---- the ray over Z
 -- `reduced_hessian(&problem.k, &z)?`
-unfoldable pub rayAlong : (n d : ℕ) (c z : List Float) → Reduced → Descent
-rayAlong n d c z (reduced values vectors cutoff) = beyondRounding n (nullPart n d values vectors cutoff z c) c
-rayAlong n d c z none = noDescent
+unfoldable pub ray_along : (n d : ℕ) (c z : List Float) → Reduced → Descent
+ray_along n d c z (reduced values vectors cutoff) = beyond_rounding n (null_part n d values vectors cutoff z c) c
+ray_along n d c z none = no_descent
 
-unfoldable pub rayOver : (n d : ℕ) (k c z : List Float) → Descent
-rayOver n d k c z = rayAlong n d c z (reducedHessian n d k z)
+unfoldable pub ray_over : (n d : ℕ) (k c z : List Float) → Descent
+ray_over n d k c z = ray_along n d c z (reduced_hessian n d k z)
 
 -- `let z = Constraints::new(&problem.e).null`
-unfoldable pub rayIn : (n : ℕ) (k c : List Float) → Constraints → Descent
-rayIn n k c (constraints rank range z coefficients pivots) = rayOver n (n - rank) k c z
+unfoldable pub ray_in : (n : ℕ) (k c : List Float) → Constraints → Descent
+ray_in n k c (constraints rank range z coefficients pivots) = ray_over n (n - rank) k c z
 
-unfoldable pub rayScaled : (n m : ℕ) (k c e : List Float) → Descent
-rayScaled n m k c e = rayIn n k c (new n m e)
+unfoldable pub ray_scaled : (n m : ℕ) (k c e : List Float) → Descent
+ray_scaled n m k c e = ray_in n k c (new n m e)

@@ -24,7 +24,7 @@ pub fn refused() -> Ray
 // The KKT system was inconsistent, so such a direction exists up to rounding; without one the system was too ill-conditioned to tell.
 fn beyond_rounding(direction: [f64; sizes::VARIABLES], c: &[f64], n: usize) -> Ray
     requires { (n ≤ Sizes.originals) × (n ≤ length c.now) }
-    ensures { Definition.rayOf n result ≡ Definition.beyondRounding n (take n direction) c.now }
+    ensures { Definition.ray_of n result ≡ Definition.beyond_rounding n (take n direction) c.now }
 {
     let length = reductions::scaled_norm(&direction[..n], n);
     if length <= 1e-12 * reductions::scaled_norm(c, n) {
@@ -58,7 +58,7 @@ fn ray_over_in(
         × (n * n ≤ length room.old)
         × (n * n ≤ length h.old)
         × (n * n ≤ length vectors.old) }
-    ensures { Definition.rayOf n result ≡ Definition.rayOver n d k.now c.now z.now }
+    ensures { Definition.ray_of n result ≡ Definition.ray_over n d k.now c.now z.now }
 {
     let hessian = reduced::reduced_hessian(k, z, n, d, room, h, vectors);
     let cutoff = hessian.cutoff;
@@ -78,7 +78,7 @@ fn ray_over_small(k: &[f64], c: &[f64], z: &[f64], n: usize, d: usize) -> Ray
         × (n ≤ length c.now)
         × (n * d ≤ length z.now)
         × (n ≤ Sizes.few) }
-    ensures { Definition.rayOf n result ≡ Definition.rayOver n d k.now c.now z.now }
+    ensures { Definition.ray_of n result ≡ Definition.ray_over n d k.now c.now z.now }
 {
     let mut room = [0.0; sizes::SMALL];
     let mut h = [0.0; sizes::SMALL];
@@ -92,7 +92,7 @@ fn ray_over_large(k: &[f64], c: &[f64], z: &[f64], n: usize, d: usize) -> Ray
         × (n * n ≤ length k.now)
         × (n ≤ length c.now)
         × (n * d ≤ length z.now) }
-    ensures { Definition.rayOf n result ≡ Definition.rayOver n d k.now c.now z.now }
+    ensures { Definition.ray_of n result ≡ Definition.ray_over n d k.now c.now z.now }
 {
     let mut room = [0.0; sizes::SQUARE];
     let mut h = [0.0; sizes::SQUARE];
@@ -107,7 +107,7 @@ fn ray_over(k: &[f64], c: &[f64], z: &[f64], n: usize, d: usize) -> Ray
         × (n * n ≤ length k.now)
         × (n ≤ length c.now)
         × (n * d ≤ length z.now) }
-    ensures { Definition.rayOf n result ≡ Definition.rayOver n d k.now c.now z.now }
+    ensures { Definition.ray_of n result ≡ Definition.ray_over n d k.now c.now z.now }
 {
     if n <= sizes::FEW {
         return ray_over_small(k, c, z, n, d);
@@ -129,7 +129,7 @@ pub fn ray_scaled(
     requires { (n * n ≤ length k.now)
         × (n ≤ length c.now)
         × Room n m e.now coefficients.old range.old null.old }
-    ensures { Definition.rayOf n result ≡ Definition.rayScaled n m k.now c.now e.now }
+    ensures { Definition.ray_of n result ≡ Definition.ray_scaled n m k.now c.now e.now }
 {
     let pivots = constraints::new(e, n, m, coefficients, range, null);
     let rank = pivots.rank;

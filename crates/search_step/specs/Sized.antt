@@ -1,6 +1,6 @@
 -- Where a step finds a bracket, its best solution has the sizes of the solves' answers; and none ends in Unbounded.
 use Rattle.std.specs.Prelude.{◌≡◌, List, ℕ, ◌≤◌, length, Float}
-use Rattle.folds.specs.Fold.{pick-keep}
+use Rattle.folds.specs.Fold.{pick_keep}
 use Rattle.folds.specs.Run.{Kept}
 use Rattle.arith.specs.Float.{infinity}
 use Rattle.minimum.specs.Minimized as Engine
@@ -9,7 +9,7 @@ use Rattle.minimum.specs.Laws.{Filled, Within}
 use Rattle.bracket.specs.declared.Bracket.{Bracket}
 use Rattle.bracket.specs.Bracket.{accept}
 use Rattle.bracket.specs.Sized.{Sized, accept-sized, exceed-sized}
-use Rattle.search_step.specs.Step.{Ended, found, nonFinite, singular, unbounded, notConverged, doubleOn, doubleBy, cutBy, accepted}
+use Rattle.search_step.specs.Step.{Ended, found, non_finite, singular, unbounded, not_converged, double_on, double_by, cut_by, accepted}
 
 abbrev Any : Bracket → Type 0
 Any b = Unit {0}
@@ -21,25 +21,25 @@ module _ (n w budget : ℕ) where
 
   abbrev pub Fits : Ended → Type 0
   Fits (found b) = Sized n w budget b
-  Fits nonFinite = Unit {0}
+  Fits non_finite = Unit {0}
   Fits singular = Unit {0}
   Fits unbounded = ⊥
-  Fits notConverged = Unit {0}
+  Fits not_converged = Unit {0}
 
   abbrev pub Accepted : Capped.Capped → Type 0
   Accepted (Capped.optimal x multipliers passes raise) = (length x ≡ n) × (length multipliers ≡ w) × (1 ≤ passes) × (passes ≤ budget)
-  Accepted Capped.nonFinite = Unit {0}
+  Accepted Capped.non_finite = Unit {0}
   Accepted Capped.singular = Unit {0}
   Accepted Capped.unbounded = ⊥
-  Accepted Capped.notConverged = Unit {0}
+  Accepted Capped.not_converged = Unit {0}
 
   pub accepted-fits : (o : Ended) → Fits o → Accepted (accepted o)
   unfolding accepted
-  accepted-fits (found b) z = (z.best-long, z.multipliers-long, z.some, z.few)
-  accepted-fits nonFinite z = tt
+  accepted-fits (found b) z = (z.best_long, z.multipliers_long, z.some, z.few)
+  accepted-fits non_finite z = tt
   accepted-fits singular z = tt
   accepted-fits unbounded z = z
-  accepted-fits notConverged z = tt
+  accepted-fits not_converged z = tt
 
   accept-fits : (u : Bracket) (at value : Float) (x multipliers : List Float) (passes : ℕ) → Answers (Engine.optimal x multipliers passes) →
       Sized n w budget (accept at value x multipliers passes u)
@@ -47,28 +47,28 @@ module _ (n w budget : ℕ) where
       accept-sized n w budget u at value x multipliers passes k.0.0 k.0.1 k.1.0 k.1.1
 
   -- ---- the doubling
-  on_fits : (u : Bracket) → Kept Any Fits (doubleOn u)
-  unfolding doubleOn Kept
-  on_fits u = pick-keep (Kept Any Fits) _ tt tt
+  on-fits : (u : Bracket) → Kept Any Fits (double_on u)
+  unfolding double_on Kept
+  on-fits u = pick_keep (Kept Any Fits) _ tt tt
 
   module _ (at : List Float) (limit : Float) (t : Bracket) where
-    pub double-fits : (s : Engine.Minimized) → Answers s → Kept Any Fits (doubleBy n at limit t s)
-    unfolding doubleBy Kept
+    pub double-fits : (s : Engine.Minimized) → Answers s → Kept Any Fits (double_by n at limit t s)
+    unfolding double_by Kept
     double-fits (Engine.optimal x multipliers passes) k =
-        pick-keep (Kept Any Fits) _ (accept-fits t t.high _ x multipliers passes k) (on_fits _)
-    double-fits Engine.unbounded k = on_fits _
-    double-fits Engine.nonFinite k = tt
+        pick_keep (Kept Any Fits) _ (accept-fits t t.high _ x multipliers passes k) (on-fits _)
+    double-fits Engine.unbounded k = on-fits _
+    double-fits Engine.non_finite k = tt
     double-fits Engine.singular k = tt
-    double-fits Engine.notConverged k = tt
+    double-fits Engine.not_converged k = tt
 
     -- ---- the cuts
-    pub cut_fits : (s : Engine.Minimized) → Sized n w budget t → Answers s → Kept (Sized n w budget) Fits (cutBy n at limit t s)
-    unfolding cutBy Kept
-    cut_fits (Engine.optimal x multipliers passes) z k =
-        pick-keep (Kept (Sized n w budget) Fits) _
+    pub cut-fits : (s : Engine.Minimized) → Sized n w budget t → Answers s → Kept (Sized n w budget) Fits (cut_by n at limit t s)
+    unfolding cut_by Kept
+    cut-fits (Engine.optimal x multipliers passes) z k =
+        pick_keep (Kept (Sized n w budget) Fits) _
         (accept-fits t t.middle _ x multipliers passes k)
         (exceed-sized n w budget t z t.middle _)
-    cut_fits Engine.unbounded z k = exceed-sized n w budget t z t.middle infinity
-    cut_fits Engine.nonFinite z k = tt
-    cut_fits Engine.singular z k = tt
-    cut_fits Engine.notConverged z k = tt
+    cut-fits Engine.unbounded z k = exceed-sized n w budget t z t.middle infinity
+    cut-fits Engine.non_finite z k = tt
+    cut-fits Engine.singular z k = tt
+    cut-fits Engine.not_converged z k = tt

@@ -3,9 +3,9 @@
 ghost use Rattle.std.specs.Prelude.{◌≡◌, ℕ, ◌≤◌, length, take};
 ghost use Rattle.sizes.specs.Sizes as Sizes;
 ghost use Rattle.minimum.specs.Minimized.{minimized};
-ghost use Rattle.minimum.specs.Capped.{cappedOf};
+ghost use Rattle.minimum.specs.Capped.{capped_of};
 ghost use Rattle.bracket.specs.Bracket.{bracket_of};
-ghost use Rattle.search_step.specs.Step.{Gives, steppedOf, ended_of};
+ghost use Rattle.search_step.specs.Step.{Gives, stepped_of, ended_of};
 ghost use Rattle.search_step.specs.Step as Definition;
 
 use bracket::Bracket;
@@ -45,7 +45,7 @@ pub fn ended(verdict: SolveVerdict, bracket: Bracket) -> Stepped
 // ---- the doubling
 // `high` is past the limit: on to twice it.
 fn double_on(bracket: Bracket) -> Stepped
-    ensures { Gives result bracket Definition.doubleOn }
+    ensures { Gives result bracket Definition.double_on }
 {
     if bracket.high > MAX / 2.0 {
         return ended(SolveVerdict::NotConverged, bracket);
@@ -65,8 +65,8 @@ pub fn double_by(
     n: usize,
 ) -> Stepped
     requires { (n ≤ Sizes.originals) × (n ≤ length at.now) }
-    ensures { (w : ℕ) → steppedOf n w result
-        ≡ Definition.doubleBy n at.now limit (bracket_of n w bracket) (minimized verdict (take n x) (take w multipliers) passes) }
+    ensures { (w : ℕ) → stepped_of n w result
+        ≡ Definition.double_by n at.now limit (bracket_of n w bracket) (minimized verdict (take n x) (take w multipliers) passes) }
 {
     match verdict {
         SolveVerdict::Optimal => {
@@ -98,8 +98,8 @@ pub fn cut_by(
     n: usize,
 ) -> Stepped
     requires { (n ≤ Sizes.originals) × (n ≤ length at.now) }
-    ensures { (w : ℕ) → steppedOf n w result
-        ≡ Definition.cutBy n at.now limit (bracket_of n w bracket) (minimized verdict (take n x) (take w multipliers) passes) }
+    ensures { (w : ℕ) → stepped_of n w result
+        ≡ Definition.cut_by n at.now limit (bracket_of n w bracket) (minimized verdict (take n x) (take w multipliers) passes) }
 {
     match verdict {
         SolveVerdict::Optimal => {
@@ -119,7 +119,7 @@ pub fn cut_by(
 // ---- the answer
 // The bracket's best solution, accepted at `high`.
 pub fn accepted(s: Stepped) -> CappedMinimum
-    ensures { (n w : ℕ) → cappedOf n w result ≡ Definition.accepted (ended_of n w s) }
+    ensures { (n w : ℕ) → capped_of n w result ≡ Definition.accepted (ended_of n w s) }
 {
     let verdict = s.verdict;
     let bracket = s.bracket;

@@ -9,11 +9,11 @@ use Rattle.segments.specs.declared.Segments.{Segments}
 use Rattle.segments.specs.declared.State.TheVariants.{At, Free}
 use Rattle.segments.specs.Segments.{cuts, side, new}
 use Rattle.segments.specs.Start.{fixed, below, inside, place}
-use Rattle.segments.specs.Freeing.{freed, freeOne}
+use Rattle.segments.specs.Freeing.{freed, free_one}
 
-of_cut : new f0 (fromℕ 100) (fromℕ 40) f1 ≡ record { points = f0 ∷ fromℕ 40 ∷ fromℕ 100 ∷ []; slopes = neg f1 ∷ f1 ∷ []; count = 3 }
+of-cut : new f0 (fromℕ 100) (fromℕ 40) f1 ≡ record { points = f0 ∷ fromℕ 40 ∷ fromℕ 100 ∷ []; slopes = neg f1 ∷ f1 ∷ []; count = 3 }
 unfolding new cuts side pick both lt le neg of_int of_bits
-of_cut = refl
+of-cut = refl
 
 of-bound : new f0 (fromℕ 100) f0 f1 ≡ record { points = f0 ∷ fromℕ 100 ∷ f0 ∷ []; slopes = f1 ∷ f0 ∷ []; count = 2 }
 unfolding new cuts side pick both lt le neg of_int of_bits
@@ -31,9 +31,9 @@ unfolding place inside below fixed position some fold new cuts side pick both lt
 of-place = (refl, refl, refl, refl)
 
 -- freed: held at the upper bound it goes down into the last segment, held at the kink up, and one that is fixed stays
-of-freed : (freeOne false (At 2) cut ≡ Free 1)
-    × (freeOne false (At 1) cut ≡ Free 1)
-    × (freeOne false (At 0) cut ≡ Free 0)
-    × (freeOne true (At 2) cut ≡ At 2)
-unfolding freeOne freed new cuts side pick both lt le neg of_int of_bits
+of-freed : (free_one false (At 2) cut ≡ Free 1)
+    × (free_one false (At 1) cut ≡ Free 1)
+    × (free_one false (At 0) cut ≡ Free 0)
+    × (free_one true (At 2) cut ≡ At 2)
+unfolding free_one freed new cuts side pick both lt le neg of_int of_bits
 of-freed = (refl, refl, refl, refl)

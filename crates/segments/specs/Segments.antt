@@ -42,14 +42,14 @@ Placed s (At p) = p ≤ last s
 Placed s (Free j) = j < last s
 
 -- one of a list of them; past the end it has no point
-abbrev pub segmentsAt : List Segments → (i : ℕ) → Segments
-segmentsAt l i = get_or l i (record { points = []; slopes = []; count = 0 })
+abbrev pub segments_at : List Segments → (i : ℕ) → Segments
+segments_at l i = get_or l i (record { points = []; slopes = []; count = 0 })
 
-abbrev pub stateAt : List Spot → (i : ℕ) → State
-stateAt l i = (get_or l i (record { state = At 0 })).state
+abbrev pub state_at : List Spot → (i : ℕ) → State
+state_at l i = (get_or l i (record { state = At 0 })).state
 
 abbrev pub AllCut : (n : ℕ) → List Segments → Type 0
-AllCut n segments = (i : ℕ) → i < n → Cut (segmentsAt segments i)
+AllCut n segments = (i : ℕ) → i < n → Cut (segments_at segments i)
 
 abbrev pub AllPlaced : (n : ℕ) → List Segments → List Spot → Type 0
-AllPlaced n segments state = (i : ℕ) → i < n → Placed (segmentsAt segments i) (stateAt state i)
+AllPlaced n segments state = (i : ℕ) → i < n → Placed (segments_at segments i) (state_at state i)

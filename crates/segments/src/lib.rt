@@ -2,7 +2,7 @@
 ghost use Rattle.std.specs.Prelude.{◌≡◌, ◌≤◌, ◌<◌, min, length};
 ghost use Rattle.folds.specs.Fold.{pick};
 ghost use Rattle.sizes.specs.Sizes as Sizes;
-ghost use Rattle.arith.specs.Float.{at as elementAt};
+ghost use Rattle.arith.specs.Float.{at as element_at};
 ghost use Rattle.segments.specs.Segments as Definition;
 ghost use Rattle.segments.specs.Segments.{Cut, AllCut, IsFree, Placed, AllPlaced};
 ghost use Rattle.segments.specs.Start as Start;
@@ -103,7 +103,7 @@ impl Segments {
 
     pub fn point(self, p: usize) -> f64
         requires { Cut self × (p ≤ Definition.last self) }
-        ensures { result ≡ elementAt self.points p }
+        ensures { result ≡ element_at self.points p }
     {
         let points = self.points;
         points[p]
@@ -111,7 +111,7 @@ impl Segments {
 
     pub fn slope(self, j: usize) -> f64
         requires { Cut self × (j < Definition.last self) }
-        ensures { result ≡ elementAt self.slopes j }
+        ensures { result ≡ element_at self.slopes j }
     {
         let slopes = self.slopes;
         slopes[j]
@@ -206,7 +206,7 @@ fn freed(state: State, s: Segments) -> State
 
 fn free_one(fixed: bool, spot: Spot, s: Segments) -> State
     requires { Cut s }
-    ensures { result ≡ Freeing.freeOne fixed spot.state s }
+    ensures { result ≡ Freeing.free_one fixed spot.state s }
 {
     let state = spot.state;
     if fixed {
@@ -223,7 +223,7 @@ pub fn free_all(
     n: usize,
 ) -> [Spot; sizes::VARIABLES]
     requires { (n ≤ Sizes.variables) × (n ≤ length fixed.now) × AllCut n segments × AllPlaced n segments state }
-    ensures value { result ≡ Freeing.freeAll n segments fixed.now state }
+    ensures value { result ≡ Freeing.free_all n segments fixed.now state }
     ensures all_placed { AllPlaced n segments result }
 {
     let mut next = state;

@@ -6,59 +6,59 @@ use Rattle.std.proofs.Math.Logic.{inr, ⊎_elim}
 use Rattle.std.proofs.Math.Bool.{true, false}
 use Rattle.std.proofs.Math.Dec.{leb}
 use borrow.Author.Tests.{le-leb, lt-leb, leb-true}
-use Rattle.folds.specs.Fold.{pick, pick_true, pick-false, pick-keep}
+use Rattle.folds.specs.Fold.{pick, pick_true, pick_false, pick_keep}
 use Rattle.block.specs.Block.{Block}
-use Rattle.block.specs.Keeps.{bounded-true}
+use Rattle.block.specs.Keeps.{bounded_true}
 use Rattle.block.specs.Ranges.{Ranged}
 use Rattle.format.specs.Read.{Outcome, read}
 use Rattle.format.specs.InRange.{read-ranged}
-use Rattle.gap.specs.Prices.{priceCount}
-use Rattle.answer.specs.File.{Answer, fileSize}
+use Rattle.gap.specs.Prices.{price_count}
+use Rattle.answer.specs.File.{Answer, file_size}
 use Rattle.minimum.specs.Capped as Engine
 use Rattle.minimum.specs.Capped.{Capped, optimal}
-use Rattle.outputs.specs.Capped.{CappedAnswer, wrongShape, blankBound, engine, number}
-use Rattle.outputs.specs.Capped.{number-optimal, number-nonFinite, number-singular, number-notConverged}
-use Rattle.rounding.specs.Lists.{timesOf, pricesOf}
-use Rattle.block_solve.specs.Solve.{solveBlock}
-use Rattle.block_solve.specs.Laws.{solved-sized, engine-always, solved-bounded}
-use Rattle.placement.specs.Placed.{Placed, answered, refused, answerFor, written}
-use Rattle.placement.specs.Laws.{plan-and-prices, written-by}
-use Rattle.service.specs.Place.{ofEngine, placeBlock, placeRead, place, number_of}
+use Rattle.outputs.specs.Capped.{CappedAnswer, wrong_shape, blank_bound, engine, number}
+use Rattle.outputs.specs.Capped.{number-optimal, number-non_finite, number-singular, number-not_converged}
+use Rattle.rounding.specs.Lists.{times_of, prices_of}
+use Rattle.block_solve.specs.Solve.{solve_block}
+use Rattle.block_solve.specs.Laws.{solved-sized, engine_always, solved-bounded}
+use Rattle.placement.specs.Placed.{Placed, answered, refused, answer_for, written}
+use Rattle.placement.specs.Laws.{plan-and-prices, written_by}
+use Rattle.service.specs.Place.{of_engine, place_block, place_read, place, number_of}
 use Rattle.service.specs.Promise.{Answers}
 
 -- ---- a block: 8, what the engine refuses, and its answer
 module _ (b : Block) (room : ℕ) where
-  pub too_small : room < fileSize (length b.words) (priceCount b + 1) → refused 8 ≡ placeBlock b room
-  unfolding placeBlock
-  too_small h = pick-false _ _ (lt-leb _ _ h) refl
+  pub too_small : room < file_size (length b.words) (price_count b + 1) → refused 8 ≡ place_block b room
+  unfolding place_block
+  too_small h = pick_false _ _ (lt-leb _ _ h) refl
 
-  module _ (h : fileSize (length b.words) (priceCount b + 1) ≤ room) where
-    pub engine-refused : (n : ℕ) → n ≡ number (solveBlock b) → (n ≡ 0 → ⊥) → refused n ≡ placeBlock b room
-    unfolding placeBlock ofEngine
-    engine-refused n e z = pick_true _ _ (le-leb _ _ h) (refuses (solveBlock b) e)
+  module _ (h : file_size (length b.words) (price_count b + 1) ≤ room) where
+    pub engine-refused : (n : ℕ) → n ≡ number (solve_block b) → (n ≡ 0 → ⊥) → refused n ≡ place_block b room
+    unfolding place_block of_engine
+    engine-refused n e z = pick_true _ _ (le-leb _ _ h) (refuses (solve_block b) e)
       where
-        refuses : (a : CappedAnswer) → n ≡ number a → refused n ≡ ofEngine b a
-        refuses wrongShape q = ap refused q
-        refuses blankBound q = ap refused q
+        refuses : (a : CappedAnswer) → n ≡ number a → refused n ≡ of_engine b a
+        refuses wrong_shape q = ap refused q
+        refuses blank_bound q = ap refused q
         refuses (engine (optimal x multipliers passes raise)) q = absurd (z (q ∙ number-optimal x multipliers passes raise))
-        refuses (engine Engine.nonFinite) q = ap refused q
+        refuses (engine Engine.non_finite) q = ap refused q
         refuses (engine Engine.singular) q = ap refused q
         refuses (engine Engine.unbounded) q = ap refused q
-        refuses (engine Engine.notConverged) q = ap refused q
+        refuses (engine Engine.not_converged) q = ap refused q
 
     pub engine-answers : {d : Placed} (x multipliers : List Float) (passes : ℕ) (raise : Float)
-        → solveBlock b ≡ engine (optimal x multipliers passes raise) → d ≡ written b x multipliers passes raise → d ≡ placeBlock b room
-    unfolding placeBlock ofEngine
+        → solve_block b ≡ engine (optimal x multipliers passes raise) → d ≡ written b x multipliers passes raise → d ≡ place_block b room
+    unfolding place_block of_engine
     engine-answers x multipliers passes raise e q = pick_true _ _ (le-leb _ _ h) (rw e q)
 
 -- ---- the block's refusals
 module _ (s : List ℕ) (room : ℕ) where
-  pub block_refused : (n : ℕ) → read s ≡ Outcome.refused n → refused n ≡ place s room
-  unfolding place placeRead
-  block_refused n e = rw e
+  pub block-refused : (n : ℕ) → read s ≡ Outcome.refused n → refused n ≡ place s room
+  unfolding place place_read
+  block-refused n e = rw e
 
-  pub block-placed : (b : Block) → read s ≡ Outcome.block b → placeBlock b room ≡ place s room
-  unfolding place placeRead
+  pub block-placed : (b : Block) → read s ≡ Outcome.block b → place_block b room ≡ place s room
+  unfolding place place_read
   block-placed b e = rw e
 
 -- ---- the number for a block that is read is 0, 8, 11, 12 or 14: the engine gives no 9, 10 or 13 here, and the gap fits, so 15 is none either
@@ -66,72 +66,72 @@ abbrev pub Numbered : Placed → Type 0
 Numbered p = let n = number_of p in (n ≡ 0) ⊎ ((n ≡ 8) ⊎ ((n ≡ 11) ⊎ ((n ≡ 12) ⊎ (n ≡ 14))))
 
 module _ {b : Block} (R : Ranged b) where
-  written-numbered : (x multipliers : List Float) (passes : ℕ) (raise : Float) → solveBlock b ≡ engine (optimal x multipliers passes raise)
+  written-numbered : (x multipliers : List Float) (passes : ℕ) (raise : Float) → solve_block b ≡ engine (optimal x multipliers passes raise)
       → Numbered (written b x multipliers passes raise)
   unfolding number_of
   written-numbered x multipliers passes raise s =
       let z = solved-sized b x multipliers passes raise s in
       ⊎_elim (λ e. subst Numbered (sym e.1) (inl refl)) (λ e. subst Numbered (sym e) (inr (inr (inr (inr refl)))))
-      (written-by R x multipliers raise z.x-long z.multipliers-long passes)
+      (written_by R x multipliers raise z.x_long z.multipliers_long passes)
 
-  engine-numbered : (o : Capped) → solveBlock b ≡ engine o → Numbered (ofEngine b (engine o))
-  unfolding ofEngine number_of
+  engine-numbered : (o : Capped) → solve_block b ≡ engine o → Numbered (of_engine b (engine o))
+  unfolding of_engine number_of
   engine-numbered (optimal x multipliers passes raise) s = written-numbered x multipliers passes raise s
-  engine-numbered Engine.nonFinite s = inr (inr (inl number-nonFinite))
+  engine-numbered Engine.non_finite s = inr (inr (inl number-non_finite))
   engine-numbered Engine.singular s = inr (inr (inr (inl number-singular)))
   engine-numbered Engine.unbounded s = absurd (solved-bounded b s)
-  engine-numbered Engine.notConverged s = inr (inr (inr (inr number-notConverged)))
+  engine-numbered Engine.not_converged s = inr (inr (inr (inr number-not_converged)))
 
-  block-numbered : (room : ℕ) → Numbered (placeBlock b room)
-  unfolding placeBlock number_of
+  block-numbered : (room : ℕ) → Numbered (place_block b room)
+  unfolding place_block number_of
   block-numbered room =
-      let a = engine-always b R in
-      pick-keep Numbered _ (subst (λ (e : CappedAnswer). Numbered (ofEngine b e)) (sym a.1) (engine-numbered a.0 a.1)) (inr (inl refl))
+      let a = engine_always b R in
+      pick_keep Numbered _ (subst (λ (e : CappedAnswer). Numbered (of_engine b e)) (sym a.1) (engine-numbered a.0 a.1)) (inr (inl refl))
 
 pub place-numbered : (s : List ℕ) (room : ℕ) (b : Block) → read s ≡ Outcome.block b → Numbered (place s room)
 place-numbered s room b e = subst Numbered (block-placed s room b e) (block-numbered (read-ranged s b e) room)
 
 -- ---- what follows of an answer
 module _ {b : Block} (R : Ranged b) {a : Answer} where
-  written-answer : (x multipliers : List Float) (passes : ℕ) (raise : Float) → solveBlock b ≡ engine (optimal x multipliers passes raise)
+  written-answer : (x multipliers : List Float) (passes : ℕ) (raise : Float) → solve_block b ≡ engine (optimal x multipliers passes raise)
       → written b x multipliers passes raise ≡ answered a → Answers b a
   written-answer x multipliers passes raise s e =
       let z = solved-sized b x multipliers passes raise s in
       ⊎_elim
       (λ w.
-      let same : answerFor b (timesOf x) (pricesOf multipliers raise) passes ≡ a = cc in
+      let same : answer_for b (times_of x) (prices_of multipliers raise) passes ≡ a = cc in
       subst (Answers b) same
       (record {
-        ranged = plan-and-prices R x multipliers raise z.x-long z.multipliers-long w.0;
-        bounded = bounded-true b (timesOf x) w.0;
+        ranged = plan-and-prices R x multipliers raise z.x_long z.multipliers_long w.0;
+        bounded = bounded_true b (times_of x) w.0;
         gap_is = refl;
         x = x;
         multipliers = multipliers;
         raise = raise;
         solved = s;
-        passes-few = z.passes-few;
+        passes_few = z.passes_few;
       }))
       (λ w. absurd (let y : ◌≡◌ {A = ℕ} 0 1 = cc in omega arith))
-      (written-by R x multipliers raise z.x-long z.multipliers-long passes)
+      (written_by R x multipliers raise z.x_long z.multipliers_long passes)
 
-  engine-answer : (e : CappedAnswer) → solveBlock b ≡ e → ofEngine b e ≡ answered a → Answers b a
-  unfolding ofEngine
-  engine-answer wrongShape s e = absurd (let z : ◌≡◌ {A = ℕ} 0 1 = cc in omega arith)
-  engine-answer blankBound s e = absurd (let z : ◌≡◌ {A = ℕ} 0 1 = cc in omega arith)
+  engine-answer : (e : CappedAnswer) → solve_block b ≡ e → of_engine b e ≡ answered a → Answers b a
+  unfolding of_engine
+  engine-answer wrong_shape s e = absurd (let z : ◌≡◌ {A = ℕ} 0 1 = cc in omega arith)
+  engine-answer blank_bound s e = absurd (let z : ◌≡◌ {A = ℕ} 0 1 = cc in omega arith)
   engine-answer (engine (optimal x multipliers passes raise)) s e = written-answer x multipliers passes raise s e
-  engine-answer (engine Engine.nonFinite) s e = absurd (let z : ◌≡◌ {A = ℕ} 0 1 = cc in omega arith)
+  engine-answer (engine Engine.non_finite) s e = absurd (let z : ◌≡◌ {A = ℕ} 0 1 = cc in omega arith)
   engine-answer (engine Engine.singular) s e = absurd (let z : ◌≡◌ {A = ℕ} 0 1 = cc in omega arith)
   engine-answer (engine Engine.unbounded) s e = absurd (let z : ◌≡◌ {A = ℕ} 0 1 = cc in omega arith)
-  engine-answer (engine Engine.notConverged) s e = absurd (let z : ◌≡◌ {A = ℕ} 0 1 = cc in omega arith)
+  engine-answer (engine Engine.not_converged) s e = absurd (let z : ◌≡◌ {A = ℕ} 0 1 = cc in omega arith)
 
   -- and the slice has room for it
-  pub block-answer : (room : ℕ) → placeBlock b room ≡ answered a → Answers b a × (fileSize (length b.words) (priceCount b + 1) ≤ room)
-  unfolding placeBlock pick
-  block-answer room e = go (leb (fileSize (length b.words) (priceCount b + 1)) room) refl e
+  pub block-answer : (room : ℕ) → place_block b room ≡ answered a → Answers b a × (file_size (length b.words) (price_count b + 1) ≤ room)
+  unfolding place_block pick
+  block-answer room e = go (leb (file_size (length b.words) (price_count b + 1)) room) refl e
     where
-      go : (t : Bool) → leb (fileSize (length b.words) (priceCount b + 1)) room ≡ t → pick t (ofEngine b (solveBlock b)) (refused 8) ≡ answered a
-          → Answers b a × (fileSize (length b.words) (priceCount b + 1) ≤ room)
-      go true h e = (engine-answer (solveBlock b) refl e, leb-true _ _ h)
+      go : (t : Bool) → leb (file_size (length b.words) (price_count b + 1)) room ≡ t → pick t (of_engine b (solve_block b)) (refused 8) ≡ answered a
+          → Answers b a × (file_size (length b.words) (price_count b + 1) ≤ room)
+      go true h e = (engine-answer (solve_block b) refl e, leb-true _ _ h)
       go false h e = absurd (let z : ◌≡◌ {A = ℕ} 0 1 = cc in omega arith)
 
 -- ---- the answer to a block file
@@ -139,12 +139,12 @@ pub record Found (s : List ℕ) (room : ℕ) (a : Answer) : Type 0 where
   pub block : Block
   pub is_read : read s ≡ Outcome.block block
   pub answers : Answers block a
-  pub fits : fileSize (length block.words) (priceCount block + 1) ≤ room
+  pub fits : file_size (length block.words) (price_count block + 1) ≤ room
 
 pub place-answer : (s : List ℕ) (room : ℕ) {a : Answer} → place s room ≡ answered a → Found s room a
-unfolding place placeRead
+unfolding place place_read
 place-answer s room {a} e = go (read s) refl e
   where
-    go : (o : Outcome) → read s ≡ o → placeRead o room ≡ answered a → Found s room a
+    go : (o : Outcome) → read s ≡ o → place_read o room ≡ answered a → Found s room a
     go (Outcome.refused n) r e = absurd (let z : ◌≡◌ {A = ℕ} 0 1 = cc in omega arith)
     go (Outcome.block b) r e = let w = block-answer (read-ranged s b r) room e in record { block = b; is_read = r; answers = w.0; fits = w.1 }

@@ -12,8 +12,8 @@ use Rattle.columns.specs.Columns.{cell}
 use Rattle.matrix.specs.Matrix.{index}
 
 -- `first_slack_column + i - originals`
-unfoldable pub slackColumn : (i originals first : ℕ) → ℕ
-slackColumn i originals first = first + i - originals
+unfoldable pub slack_column : (i originals first : ℕ) → ℕ
+slack_column i originals first = first + i - originals
 
 -- each of the list is a slack
 abbrev pub Slacks : (originals : ℕ) (slacks : List ℕ) → Type 0
@@ -23,7 +23,7 @@ Slacks originals slacks = (t : ℕ) → t < length slacks → (originals ≤ ind
 pub record Row (n m originals first i : ℕ) : Type 0 where
   pub from : originals ≤ i
   pub below : i < n
-  pub column : slackColumn i originals first < m
+  pub column : slack_column i originals first < m
 
 pub record Rows (n m originals first : ℕ) (slacks : List ℕ) : Type 0 where
   pub few : n ≤ Sizes.variables
@@ -37,25 +37,25 @@ pub record Solved (n m : ℕ) (e : List Float) (solved : List ℕ) : Type 0 wher
 
 -- ---- `kept_columns`
 -- `slacks.iter().any(|&(_, column)| column == j)`
-unfoldable pub anySlackColumn : (slacks : List ℕ) (originals first j : ℕ) → Bool
-anySlackColumn slacks originals first j = some (length slacks) (λ t. eqb (slackColumn (index slacks t) originals first) j)
+unfoldable pub any_slack_column : (slacks : List ℕ) (originals first j : ℕ) → Bool
+any_slack_column slacks originals first j = some (length slacks) (λ t. eqb (slack_column (index slacks t) originals first) j)
 
 -- `solved.iter().any(|&i| e[(i, j)] != 0.0)`
-unfoldable pub anyEntry : (e : List Float) (n : ℕ) (solved : List ℕ) (j : ℕ) → Bool
-anyEntry e n solved j = some (length solved) (λ t. ne (cell e n (index solved t) j) f0)
+unfoldable pub any_entry : (e : List Float) (n : ℕ) (solved : List ℕ) (j : ℕ) → Bool
+any_entry e n solved j = some (length solved) (λ t. ne (cell e n (index solved t) j) f0)
 
 -- `j < first_slack || (!slacks.iter().any(..) && solved.iter().any(..))`
 unfoldable pub keeps : (e : List Float) (n : ℕ) (solved slacks : List ℕ) (originals first j : ℕ) → Bool
 keeps e n solved slacks originals first j =
-    pick (ltb j first) true (pick (anySlackColumn slacks originals first j) false (anyEntry e n solved j))
+    pick (ltb j first) true (pick (any_slack_column slacks originals first j) false (any_entry e n solved j))
 
 -- `(0..e.ncols()).filter(..).collect()`
-unfoldable pub keptColumns : (e : List Float) (n m : ℕ) (solved slacks : List ℕ) (originals first : ℕ) → List ℕ
-keptColumns e n m solved slacks originals first = chosen m (λ j. keeps e n solved slacks originals first j)
+unfoldable pub kept_columns : (e : List Float) (n m : ℕ) (solved slacks : List ℕ) (originals first : ℕ) → List ℕ
+kept_columns e n m solved slacks originals first = chosen m (λ j. keeps e n solved slacks originals first j)
 
 -- ---- `let mut all = DVector::zeros(e.ncols()); for (k, &j) in kept.iter().enumerate() { all[j] = multipliers[k]; }`
-unfoldable pub allMultipliers : (m : ℕ) (kept : List ℕ) (multipliers : List Float) → List Float
-allMultipliers m kept multipliers = fold (length kept) (λ k all. set all (index kept k) (at multipliers k)) (filled m f0)
+unfoldable pub all_multipliers : (m : ℕ) (kept : List ℕ) (multipliers : List Float) → List Float
+all_multipliers m kept multipliers = fold (length kept) (λ k all. set all (index kept k) (at multipliers k)) (filled m f0)
 
 -- ---- `with_slack_steps`
 -- `solved.iter().zip(step.iter()).map(|(&k, d)| e[(k, j)] * d).sum()`
@@ -63,19 +63,19 @@ unfoldable pub others : (e : List Float) (n : ℕ) (solved : List ℕ) (step : L
 others e n solved step j = sum (length solved) (λ t. fmul (cell e n (index solved t) j) (at step t))
 
 -- `(residual - others) / e[(i, j)]`; a direction has residuals of 0
-unfoldable pub slackMove : (e : List Float) (n : ℕ) (solved : List ℕ) (step residuals : List Float) (originals first i : ℕ) → Float
-slackMove e n solved step residuals originals first i =
-    let j = slackColumn i originals first in fdiv (fsub (at residuals j) (others e n solved step j)) (cell e n i j)
+unfoldable pub slack_move : (e : List Float) (n : ℕ) (solved : List ℕ) (step residuals : List Float) (originals first i : ℕ) → Float
+slack_move e n solved step residuals originals first i =
+    let j = slack_column i originals first in fdiv (fsub (at residuals j) (others e n solved step j)) (cell e n i j)
 
 -- `step.iter().copied().chain(moves)`
-unfoldable pub stepEntry : (e : List Float) (n : ℕ) (solved slacks : List ℕ) (step residuals : List Float) (originals first k : ℕ) → Float
-stepEntry e n solved slacks step residuals originals first k =
-    pick (ltb k (length solved)) (at step k) (slackMove e n solved step residuals originals first (index slacks (k - length solved)))
+unfoldable pub step_entry : (e : List Float) (n : ℕ) (solved slacks : List ℕ) (step residuals : List Float) (originals first k : ℕ) → Float
+step_entry e n solved slacks step residuals originals first k =
+    pick (ltb k (length solved)) (at step k) (slack_move e n solved step residuals originals first (index slacks (k - length solved)))
 
-unfoldable pub withSlackSteps : (e : List Float) (n : ℕ) (solved slacks : List ℕ) (step residuals : List Float) (originals first : ℕ) → List Float
-withSlackSteps e n solved slacks step residuals originals first =
-    tab (length solved + length slacks) (stepEntry e n solved slacks step residuals originals first)
+unfoldable pub with_slack_steps : (e : List Float) (n : ℕ) (solved slacks : List ℕ) (step residuals : List Float) (originals first : ℕ) → List Float
+with_slack_steps e n solved slacks step residuals originals first =
+    tab (length solved + length slacks) (step_entry e n solved slacks step residuals originals first)
 
 -- ---- `step_noise`: `q_rows.amax() * x.amax() + c_free.amax()`, with `count` rows of n entries, and x the variables without the slacks
-unfoldable pub stepNoise : (q : List Float) (count n : ℕ) (x : List Float) (originals : ℕ) (c : List Float) → Float
-stepNoise q count n x originals c = fadd (fmul (amax (count * n) q) (amax originals x)) (amax count c)
+unfoldable pub step_noise : (q : List Float) (count n : ℕ) (x : List Float) (originals : ℕ) (c : List Float) → Float
+step_noise q count n x originals c = fadd (fmul (amax (count * n) q) (amax originals x)) (amax count c)

@@ -9,7 +9,7 @@ ghost use Rattle.slack_rows.specs.SlackRows.{Slacks, Row, Rows, Solved};
 
 fn slack_column(i: usize, originals: usize, first: usize) -> usize
     requires { (originals ≤ i) × (i < Sizes.variables) × (first ≤ Sizes.columns) }
-    ensures { result ≡ SlackRows.slackColumn i originals first }
+    ensures { result ≡ SlackRows.slack_column i originals first }
 {
     first + i - originals
 }
@@ -17,7 +17,7 @@ fn slack_column(i: usize, originals: usize, first: usize) -> usize
 // Whether column j is the row of one of the slacks.
 fn any_slack_column(slacks: &[usize], originals: usize, first: usize, j: usize) -> bool
     requires { Slacks originals slacks.now × (first ≤ Sizes.columns) }
-    ensures { result ≡ SlackRows.anySlackColumn slacks.now originals first j }
+    ensures { result ≡ SlackRows.any_slack_column slacks.now originals first j }
 {
     for t in 0..slacks.len() {
         if slack_column(slacks[t], originals, first) == j {
@@ -30,7 +30,7 @@ fn any_slack_column(slacks: &[usize], originals: usize, first: usize, j: usize) 
 // Whether column j has an entry on one of the variables `solved`.
 fn any_entry(e: &[f64], n: usize, m: usize, solved: &[usize], j: usize) -> bool
     requires { Solved n m e.now solved.now × (j < m) }
-    ensures { result ≡ SlackRows.anyEntry e.now n solved.now j }
+    ensures { result ≡ SlackRows.any_entry e.now n solved.now j }
 {
     for t in 0..solved.len() {
         if columns::get(e, n, m, solved[t], j) != 0.0 {
@@ -74,9 +74,9 @@ pub fn kept_columns(
     kept: &mut [usize],
 ) -> usize
     requires { Solved n m e.now solved.now × Rows n m originals first slacks.now × (m ≤ length kept.old) }
-    ensures value { result ≡ length (SlackRows.keptColumns e.now n m solved.now slacks.now originals first) }
+    ensures value { result ≡ length (SlackRows.kept_columns e.now n m solved.now slacks.now originals first) }
     ensures kept_after { kept.new
-        ≡ over (SlackRows.keptColumns e.now n m solved.now slacks.now originals first) kept.old }
+        ≡ over (SlackRows.kept_columns e.now n m solved.now slacks.now originals first) kept.old }
 {
     let mut count = 0;
     for j in 0..m {
@@ -89,7 +89,7 @@ pub fn kept_columns(
 // The multipliers of all columns: those of the columns kept, and 0 for the others.
 pub fn all_multipliers(multipliers: &[f64], kept: &[usize]) -> [f64; sizes::COLUMNS]
     requires { (length kept.now ≤ length multipliers.now) × Below (length kept.now) kept.now Sizes.columns }
-    ensures { result ≡ SlackRows.allMultipliers Sizes.columns kept.now multipliers.now }
+    ensures { result ≡ SlackRows.all_multipliers Sizes.columns kept.now multipliers.now }
 {
     let mut all = [0.0; sizes::COLUMNS];
     for k in 0..kept.len() {
@@ -129,7 +129,7 @@ fn slack_move(
         × (first ≤ Sizes.columns)
         × Row n m originals first i }
     ensures { result
-        ≡ SlackRows.slackMove e.now n solved.now step.now residuals.now originals first i }
+        ≡ SlackRows.slack_move e.now n solved.now step.now residuals.now originals first i }
 {
     let j = slack_column(i, originals, first);
     (residuals[j] - others(e, n, m, solved, step, j)) / columns::get(e, n, m, i, j)
@@ -154,7 +154,7 @@ fn step_entry(
         × (m ≤ length residuals.now)
         × (k < length solved.now + length slacks.now) }
     ensures { result
-        ≡ SlackRows.stepEntry e.now n solved.now slacks.now step.now residuals.now
+        ≡ SlackRows.step_entry e.now n solved.now slacks.now step.now residuals.now
         originals first k }
 {
     let count = solved.len();
@@ -185,7 +185,7 @@ pub fn with_slack_steps(
         × (length solved.now + length slacks.now ≤ length all.old) }
     ensures { all.new
         ≡ over
-        (SlackRows.withSlackSteps e.now n solved.now slacks.now step.now residuals.now
+        (SlackRows.with_slack_steps e.now n solved.now slacks.now step.now residuals.now
         originals first)
         all.old }
 {
@@ -203,7 +203,7 @@ pub fn step_noise(q: &[f64], count: usize, n: usize, x: &[f64], originals: usize
         × (count * n ≤ length q.now)
         × (originals ≤ length x.now)
         × (count ≤ length c.now) }
-    ensures { result ≡ SlackRows.stepNoise q.now count n x.now originals c.now }
+    ensures { result ≡ SlackRows.step_noise q.now count n x.now originals c.now }
 {
     reductions::amax(q, count * n) * reductions::amax(x, originals) + reductions::amax(c, count)
 }

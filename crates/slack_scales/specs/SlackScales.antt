@@ -7,7 +7,7 @@ use Rattle.arith.specs.Float.{fdiv, f0, infinity, at}
 use Rattle.arith.specs.Scalar.{abs, min}
 use Rattle.vector.specs.Vector.{copy}
 use Rattle.columns.specs.Columns.{column}
-use Rattle.units.specs.Units.{scaleOr1, diagonalScales}
+use Rattle.units.specs.Units.{scale_or1, diagonal_scales}
 
 -- ---- `slack_scale`
 -- `.filter(|(a, _)| *a != 0.0).map(|(a, s)| s / a.abs()).fold(f64::INFINITY, f64::min)`
@@ -18,13 +18,13 @@ unfoldable pub smallest : (n : ℕ) (scales a : List Float) → Float
 smallest n scales a = fold n (λ i scale. smaller scale (at scales i) (at a i)) infinity
 
 -- `if scale.is_finite() && scale > 0.0 { scale } else { 1.0 }`
-unfoldable pub slackScale : (n : ℕ) (scales a : List Float) → Float
-slackScale n scales a = scaleOr1 (smallest n scales a)
+unfoldable pub slack_scale : (n : ℕ) (scales a : List Float) → Float
+slack_scale n scales a = scale_or1 (smallest n scales a)
 
 -- ---- `scales_with_slacks`
 -- `scales[n + j] = slack_scale(&scales.as_slice()[..n], column.iter().copied())`
-unfoldable pub slackScales : (n r : ℕ) (scales a : List Float) → List Float
-slackScales n r scales a = tab r (λ j. slackScale n scales (column n a j))
+unfoldable pub slack_scales : (n r : ℕ) (scales a : List Float) → List Float
+slack_scales n r scales a = tab r (λ j. slack_scale n scales (column n a j))
 
-unfoldable pub scalesWithSlacks : (n r : ℕ) (q a : List Float) → List Float
-scalesWithSlacks n r q a = copy n (diagonalScales (n + r) q) ++ slackScales n r (diagonalScales (n + r) q) a
+unfoldable pub scales_with_slacks : (n r : ℕ) (q a : List Float) → List Float
+scales_with_slacks n r q a = copy n (diagonal_scales (n + r) q) ++ slack_scales n r (diagonal_scales (n + r) q) a

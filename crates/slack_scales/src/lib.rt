@@ -18,7 +18,7 @@ fn smaller(scale: f64, s: f64, a: f64) -> f64
 // The scale of the slack of a row, of which a are the entries.
 pub fn slack_scale(scales: &[f64], a: &[f64], n: usize) -> f64
     requires { (n ≤ length scales.now) × (n ≤ length a.now) }
-    ensures { result ≡ SlackScales.slackScale n scales.now a.now }
+    ensures { result ≡ SlackScales.slack_scale n scales.now a.now }
 {
     let mut scale = arith::infinity();
     for i in 0..n {
@@ -29,7 +29,7 @@ pub fn slack_scale(scales: &[f64], a: &[f64], n: usize) -> f64
 
 fn slack_scales(scales: &[f64], a: &[f64], n: usize, r: usize, y: &mut [f64])
     requires { (n ≤ length scales.now) × (n * r ≤ length a.now) × (r ≤ length y.old) }
-    ensures { y.new ≡ over (SlackScales.slackScales n r scales.now a.now) y.old }
+    ensures { y.new ≡ over (SlackScales.slack_scales n r scales.now a.now) y.old }
 {
     for j in 0..r {
         y[j] = slack_scale(scales, columns::column(a, n, r, j), n);
@@ -42,7 +42,7 @@ pub fn scales_with_slacks(q: &[f64], a: &[f64], n: usize, r: usize) -> [f64; siz
         × (r ≤ Sizes.rows)
         × ((n + r) * (n + r) ≤ length q.now)
         × (n * r ≤ length a.now) }
-    ensures { take (n + r) result ≡ SlackScales.scalesWithSlacks n r q.now a.now }
+    ensures { take (n + r) result ≡ SlackScales.scales_with_slacks n r q.now a.now }
 {
     let diagonal = units::diagonal_scales(q, n + r);
     let mut scales = [0.0; sizes::VARIABLES];

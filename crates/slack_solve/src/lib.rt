@@ -1,7 +1,7 @@
 // qp.rs, `solve_piecewise` past its tests: the slacks, `Units`, the engine in work memory of its size, and back in the units of the caller.
 ghost use Rattle.std.specs.Prelude.{◌≡◌, ◌≤◌, ◌+◌, ◌*◌, length};
 ghost use Rattle.sizes.specs.Sizes as Sizes;
-ghost use Rattle.minimum.specs.Minimized.{minimizedOf};
+ghost use Rattle.minimum.specs.Minimized.{minimized_of};
 ghost use Rattle.quadratic.specs.Quadratic.{quadratic};
 ghost use Rattle.quadratic.specs.Holds.{Holds};
 ghost use Rattle.slack_solve.specs.SlackSolve as Definition;
@@ -42,8 +42,8 @@ fn solve_scaled(
         × ((n + r) * (m + r) ≤ length ue.now)
         × (n + r ≤ length scales.now)
         × (m + r ≤ length columns.now) }
-    ensures { minimizedOf (n + r) (m + r) result
-        ≡ Definition.solveScaled n m r uq.now ue.now c.now b.now lower.now upper.now
+    ensures { minimized_of (n + r) (m + r) result
+        ≡ Definition.solve_scaled n m r uq.now ue.now c.now b.now lower.now upper.now
         a.now row_lower.now row_upper.now at.now slopes.now start.now
         scales.now columns.now }
 {
@@ -89,8 +89,8 @@ fn solve_with_slacks(
         × (n * m ≤ length e.now)
         × (length q_all.old ≡ (n + r) * (n + r))
         × (length e_all.old ≡ (n + r) * (m + r)) }
-    ensures { minimizedOf n (m + r) result
-        ≡ Definition.solveWithSlacks n m r q_all.old e_all.old c.now e.now b.now
+    ensures { minimized_of n (m + r) result
+        ≡ Definition.solve_with_slacks n m r q_all.old e_all.old c.now e.now b.now
         lower.now upper.now a.now row_lower.now row_upper.now at.now
         slopes.now start.now }
 {
@@ -166,7 +166,7 @@ fn solve_in(
         × (n * m ≤ length e.now)
         × ((n + r) * (n + r) ≤ length q_all.old)
         × ((n + r) * (m + r) ≤ length e_all.old) }
-    ensures { minimizedOf n (m + r) result
+    ensures { minimized_of n (m + r) result
         ≡ Definition.solve (quadratic n m r q.now c.now e.now b.now lower.now
         upper.now a.now row_lower.now row_upper.now at.now slopes.now
         start.now) }
@@ -219,7 +219,7 @@ fn solve_small(
         × (n * m ≤ length e.now)
         × (n ≤ Sizes.few)
         × (r ≤ Sizes.few) }
-    ensures { minimizedOf n (m + r) result
+    ensures { minimized_of n (m + r) result
         ≡ Definition.solve (quadratic n m r q.now c.now e.now b.now lower.now
         upper.now a.now row_lower.now row_upper.now at.now slopes.now
         start.now) }
@@ -253,7 +253,7 @@ fn solve_large(
         start.now
         × (n * n ≤ length q.now)
         × (n * m ≤ length e.now) }
-    ensures { minimizedOf n (m + r) result
+    ensures { minimized_of n (m + r) result
         ≡ Definition.solve (quadratic n m r q.now c.now e.now b.now lower.now
         upper.now a.now row_lower.now row_upper.now at.now slopes.now
         start.now) }
@@ -288,7 +288,7 @@ pub fn solve_shaped(
         start.now
         × (n * n ≤ length q.now)
         × (n * m ≤ length e.now) }
-    ensures { minimizedOf n (m + r) result
+    ensures { minimized_of n (m + r) result
         ≡ Definition.solve (quadratic n m r q.now c.now e.now b.now lower.now
         upper.now a.now row_lower.now row_upper.now at.now slopes.now
         start.now) }

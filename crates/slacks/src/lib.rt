@@ -12,7 +12,7 @@ use segments::Segments;
 // Q's entry at row i, column j; 0 for a slack.
 fn q_entry(q: &[f64], n: usize, i: usize, j: usize) -> f64
     requires { n * n ≤ length q.now }
-    ensures { result ≡ Slacks.entryQ n q.now i j }
+    ensures { result ≡ Slacks.entry_q n q.now i j }
 {
     if i < n {
         if j < n {
@@ -25,7 +25,7 @@ fn q_entry(q: &[f64], n: usize, i: usize, j: usize) -> f64
 fn q_column(q: &[f64], n: usize, variables: usize, j: usize, all: &mut [f64])
     requires { (n * n ≤ length q.now) × (variables * variables ≤ length all.old) × (j < variables) }
     ensures { all.new
-        ≡ Columns.putColumn variables variables j (λ i. Slacks.entryQ n q.now i j) all.old }
+        ≡ Columns.put_column variables variables j (λ i. Slacks.entry_q n q.now i j) all.old }
 {
     for i in 0..variables {
         let v = q_entry(q, n, i, j);
@@ -39,7 +39,7 @@ pub fn with_slacks_q(q: &[f64], n: usize, r: usize, all: &mut [f64])
         × (r ≤ Sizes.rows)
         × (n * n ≤ length q.now)
         × ((n + r) * (n + r) ≤ length all.old) }
-    ensures { all.new ≡ over (Slacks.withSlacksQ n r q.now) all.old }
+    ensures { all.new ≡ over (Slacks.with_slacks_q n r q.now) all.old }
 {
     let variables = n + r;
     for j in 0..variables {
@@ -56,7 +56,7 @@ fn e_entry(e: &[f64], a: &[f64], n: usize, m: usize, r: usize, i: usize, j: usiz
         × (n * r ≤ length a.now)
         × (i < n + r)
         × (j < m + r) }
-    ensures { result ≡ Slacks.entryE n m e.now a.now i j }
+    ensures { result ≡ Slacks.entry_e n m e.now a.now i j }
 {
     if i < n {
         if j < m {
@@ -79,7 +79,7 @@ fn e_column(e: &[f64], a: &[f64], n: usize, m: usize, r: usize, j: usize, all: &
         × ((n + r) * (m + r) ≤ length all.old)
         × (j < m + r) }
     ensures { all.new
-        ≡ Columns.putColumn (n + r) (n + r) j (λ i. Slacks.entryE n m e.now a.now i j) all.old }
+        ≡ Columns.put_column (n + r) (n + r) j (λ i. Slacks.entry_e n m e.now a.now i j) all.old }
 {
     let variables = n + r;
     let columns = m + r;
@@ -98,7 +98,7 @@ pub fn with_slacks_e(e: &[f64], a: &[f64], n: usize, m: usize, r: usize, all: &m
         × (n * r ≤ length a.now)
         × ((n + r) * (m + r) ≤ length all.old) }
     ensures { all.new
-        ≡ over (Slacks.withSlacksE n m r e.now a.now) all.old }
+        ≡ over (Slacks.with_slacks_e n m r e.now a.now) all.old }
 {
     let columns = m + r;
     for j in 0..columns {
@@ -121,7 +121,7 @@ fn variable_segments(
         × (i < length slopes.now)
         × (i < length scales.now) }
     ensures value { result
-        ≡ Slacks.variableSegments lower.now upper.now at.now slopes.now scales.now i }
+        ≡ Slacks.variable_segments lower.now upper.now at.now slopes.now scales.now i }
     ensures cut { Cut result }
 {
     let scale = scales[i];
@@ -145,7 +145,7 @@ fn slack_segments(
         × (j < length row_lower.now)
         × (j < length row_upper.now)
         × (n + j < length scales.now) }
-    ensures value { result ≡ Slacks.slackSegments n row_lower.now row_upper.now scales.now j }
+    ensures value { result ≡ Slacks.slack_segments n row_lower.now row_upper.now scales.now j }
     ensures cut { Cut result }
 {
     let scale = scales[n + j];
@@ -172,7 +172,7 @@ fn one_segments(
         × (i < n + length row_upper.now)
         × (i < length scales.now) }
     ensures value { result
-        ≡ Slacks.oneSegments n lower.now upper.now at.now slopes.now
+        ≡ Slacks.one_segments n lower.now upper.now at.now slopes.now
         row_lower.now row_upper.now scales.now i }
     ensures cut { Cut result }
 {
@@ -196,7 +196,7 @@ pub fn all_segments(
 ) -> [Segments; sizes::VARIABLES]
     requires { Slacks.RangesFit n r lower.now upper.now at.now slopes.now row_lower.now row_upper.now scales.now }
     ensures value { result
-        ≡ Slacks.segmentsArray n r lower.now upper.now at.now slopes.now
+        ≡ Slacks.segments_array n r lower.now upper.now at.now slopes.now
         row_lower.now row_upper.now scales.now }
     ensures all_cut { AllCut (n + r) result }
 {
@@ -215,7 +215,7 @@ pub fn all_segments(
 // The start with its rows' sums for the slacks.
 fn start_with_slacks(start: &[f64], a: &[f64], n: usize, r: usize) -> [f64; sizes::VARIABLES]
     requires { (n ≤ Sizes.originals) × (r ≤ Sizes.rows) × (n ≤ length start.now) × (n * r ≤ length a.now) }
-    ensures { take (n + r) result ≡ Slacks.startWithSlacks n r start.now a.now }
+    ensures { take (n + r) result ≡ Slacks.start_with_slacks n r start.now a.now }
 {
     let mut all = [0.0; sizes::VARIABLES];
     vector::copy(start, n, &mut all);
@@ -236,7 +236,7 @@ pub fn slacks_start(
         × (n ≤ length start.now)
         × (n * r ≤ length a.now)
         × (n + r ≤ length scales.now) }
-    ensures { take (n + r) result ≡ Slacks.slacksStart n r start.now a.now scales.now }
+    ensures { take (n + r) result ≡ Slacks.slacks_start n r start.now a.now scales.now }
 {
     let all = start_with_slacks(start, a, n, r);
     let mut u = [0.0; sizes::VARIABLES];

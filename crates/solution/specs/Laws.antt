@@ -6,51 +6,51 @@ use Rattle.folds.specs.Tab.{length-tab}
 use Rattle.solution.specs.declared.KktVerdict.{KktVerdict}
 use Rattle.solution.specs.declared.KktVerdict.TheVariants.{Solved, NoOptimum, NonFiniteCovariance, SingularCovariance}
 use Rattle.solution.specs.declared.Solution.{Solution}
-use Rattle.solution.specs.Solution.{optimum, noOptimum, nonFinite, singular, answer, solutionOf, rescaledMultipliers, rescaled}
+use Rattle.solution.specs.Solution.{optimum, no_optimum, non_finite, singular, answer, solution_of, rescaled_multipliers, rescaled}
 
 module _ (x multipliers : List Float) where
   pub answer-solved : answer Solved x multipliers ≡ optimum x multipliers
   unfolding answer
   answer-solved = refl
 
-  pub answer-noOptimum : answer NoOptimum x multipliers ≡ noOptimum
+  pub answer-no_optimum : answer NoOptimum x multipliers ≡ no_optimum
   unfolding answer
-  answer-noOptimum = refl
+  answer-no_optimum = refl
 
-  pub answer-nonFinite : answer NonFiniteCovariance x multipliers ≡ nonFinite
+  pub answer-non_finite : answer NonFiniteCovariance x multipliers ≡ non_finite
   unfolding answer
-  answer-nonFinite = refl
+  answer-non_finite = refl
 
   pub answer-singular : answer SingularCovariance x multipliers ≡ singular
   unfolding answer
   answer-singular = refl
 
 module _ (n m : ℕ) (r : Solution) where
-  pub solution-answer : solutionOf n m r ≡ answer r.verdict (take n r.x) (take m r.multipliers)
-  unfolding solutionOf
-  solution-answer = refl
+  pub solution_answer : solution_of n m r ≡ answer r.verdict (take n r.x) (take m r.multipliers)
+  unfolding solution_of
+  solution_answer = refl
 
   -- by its verdict
-  pub solution-solved : r.verdict ≡ Solved → solutionOf n m r ≡ optimum (take n r.x) (take m r.multipliers)
-  solution-solved e = solution-answer ∙ rw (e, answer-solved)
+  pub solution_solved : r.verdict ≡ Solved → solution_of n m r ≡ optimum (take n r.x) (take m r.multipliers)
+  solution_solved e = solution_answer ∙ rw (e, answer-solved)
 
-  pub solution-noOptimum : r.verdict ≡ NoOptimum → solutionOf n m r ≡ noOptimum
-  solution-noOptimum e = solution-answer ∙ rw (e, answer-noOptimum)
+  pub solution_no_optimum : r.verdict ≡ NoOptimum → solution_of n m r ≡ no_optimum
+  solution_no_optimum e = solution_answer ∙ rw (e, answer-no_optimum)
 
-  pub solution-nonFinite : r.verdict ≡ NonFiniteCovariance → solutionOf n m r ≡ nonFinite
-  solution-nonFinite e = solution-answer ∙ rw (e, answer-nonFinite)
+  pub solution_non_finite : r.verdict ≡ NonFiniteCovariance → solution_of n m r ≡ non_finite
+  solution_non_finite e = solution_answer ∙ rw (e, answer-non_finite)
 
-  pub solution-singular : r.verdict ≡ SingularCovariance → solutionOf n m r ≡ singular
-  solution-singular e = solution-answer ∙ rw (e, answer-singular)
+  pub solution_singular : r.verdict ≡ SingularCovariance → solution_of n m r ≡ singular
+  solution_singular e = solution_answer ∙ rw (e, answer-singular)
 
-pub length-rescaledMultipliers : (m : ℕ) (multipliers : List Float) (scale : Float) (columns : List Float) →
-    length (rescaledMultipliers m multipliers scale columns) ≡ m
-unfolding rescaledMultipliers
-length-rescaledMultipliers m multipliers scale columns = length-tab m _
+pub length-rescaled_multipliers : (m : ℕ) (multipliers : List Float) (scale : Float) (columns : List Float) →
+    length (rescaled_multipliers m multipliers scale columns) ≡ m
+unfolding rescaled_multipliers
+length-rescaled_multipliers m multipliers scale columns = length-tab m _
 
 -- the verdict stays
 pub rescaled-answer : {l : List Float} (verdict : KktVerdict) (m : ℕ) (scale : Float) (columns x multipliers : List Float) →
-    l ≡ rescaledMultipliers m multipliers scale columns → answer verdict x l ≡ rescaled m scale columns (answer verdict x multipliers)
+    l ≡ rescaled_multipliers m multipliers scale columns → answer verdict x l ≡ rescaled m scale columns (answer verdict x multipliers)
 unfolding answer rescaled
 rescaled-answer Solved m scale columns x multipliers e = ap (optimum x) e
 rescaled-answer NoOptimum m scale columns x multipliers e = refl

@@ -47,7 +47,7 @@ pub fn judged(
     noise: f64,
 ) -> Solution
     requires { Sized n m k.now c.now e.now b.now }
-    ensures { Definition.solutionOf n m result
+    ensures { Definition.solution_of n m result
         ≡ Definition.judged (system n m k.now c.now e.now b.now) (take n x) (take m multipliers) noise }
 {
     let residual = scaled::kkt_residual(k, c, e, b, &x[..n], &multipliers[..m], n, m, noise);
@@ -70,7 +70,7 @@ pub fn judged(
 fn write_rescaled(multipliers: &[f64], scale: f64, columns: &[f64], m: usize, y: &mut [f64])
     requires { (m ≤ length multipliers.now) × (m ≤ length columns.now) × (m ≤ length y.old) }
     ensures { y.new
-        ≡ over (Definition.rescaledMultipliers m multipliers.now scale columns.now) y.old }
+        ≡ over (Definition.rescaled_multipliers m multipliers.now scale columns.now) y.old }
 {
     for j in 0..m {
         y[j] = multipliers[j] * scale / columns[j];
@@ -84,7 +84,7 @@ fn rescaled_multipliers(
     m: usize,
 ) -> [f64; sizes::COLUMNS]
     requires { (m ≤ Sizes.columns) × (m ≤ length multipliers.now) × (m ≤ length columns.now) }
-    ensures { take m result ≡ Definition.rescaledMultipliers m multipliers.now scale columns.now }
+    ensures { take m result ≡ Definition.rescaled_multipliers m multipliers.now scale columns.now }
 {
     let mut y = [0.0; sizes::COLUMNS];
     write_rescaled(multipliers, scale, columns, m, &mut y);
@@ -102,7 +102,7 @@ pub fn rescaled(
     m: usize,
 ) -> Solution
     requires { (m ≤ Sizes.columns) × (m ≤ length columns.now) }
-    ensures { Definition.solutionOf n m result
+    ensures { Definition.solution_of n m result
         ≡ Definition.rescaled m scale columns.now (Definition.answer verdict (take n x) (take m multipliers)) }
 {
     let restored = rescaled_multipliers(&multipliers[..m], scale, columns, m);

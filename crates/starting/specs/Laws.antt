@@ -5,22 +5,22 @@ use Rattle.folds.specs.Tab.{length-tab}
 use Rattle.arith.specs.Float.{at}
 use Rattle.segments.specs.declared.Segments.{Segments}
 use Rattle.segments.specs.declared.Spot.{Spot}
-use Rattle.segments.specs.Segments.{segmentsAt, AllCut, AllPlaced}
+use Rattle.segments.specs.Segments.{segments_at, AllCut, AllPlaced}
 use Rattle.segments.specs.Start.{place}
 use Rattle.segments.specs.Laws.{place-placed, tab-placed}
 use Rattle.iterate.specs.Iterate.{Consistent}
-use Rattle.starting.specs.Starting.{allFixed, allPlaced, started}
+use Rattle.starting.specs.Starting.{all_fixed, all_placed, started}
 
-pub length-allFixed : (n : ℕ) (segments : List Segments) → length (allFixed n segments) ≡ n
-unfolding allFixed
-length-allFixed n segments = length-tab n _
+pub length-all_fixed : (n : ℕ) (segments : List Segments) → length (all_fixed n segments) ≡ n
+unfolding all_fixed
+length-all_fixed n segments = length-tab n _
 
-pub all_placed : (n : ℕ) (segments : List Segments) (o r : List Spot) (x : List Float) → AllCut n segments → r ≡ over (allPlaced n segments x) o →
+pub all-placed : (n : ℕ) (segments : List Segments) (o r : List Spot) (x : List Float) → AllCut n segments → r ≡ over (all_placed n segments x) o →
     AllPlaced n segments r
-unfolding allPlaced
-all_placed n segments o r x cut q =
-    tab-placed n segments o r (λ i. place (segmentsAt segments i) (at x i)) (λ i l. place-placed (segmentsAt segments i) (cut i l) (at x i)) q
+unfolding all_placed
+all-placed n segments o r x cut q =
+    tab-placed n segments o r (λ i. place (segments_at segments i) (at x i)) (λ i l. place-placed (segments_at segments i) (cut i l) (at x i)) q
 
-pub started-consistent : (n : ℕ) (segments : List Segments) (start : List Float) → AllCut n segments → Consistent n segments (started n segments start)
+pub started_consistent : (n : ℕ) (segments : List Segments) (start : List Float) → AllCut n segments → Consistent n segments (started n segments start)
 unfolding started
-started-consistent n segments start cut = record { placed = all_placed n segments _ _ _ cut refl }
+started_consistent n segments start cut = record { placed = all-placed n segments _ _ _ cut refl }

@@ -7,40 +7,40 @@ use Rattle.arith.specs.Float.{f0, at}
 use Rattle.arith.specs.Scalar.{abs, max}
 use Rattle.segments.specs.declared.Segments.{Segments}
 use Rattle.segments.specs.declared.Spot.{Spot}
-use Rattle.segments.specs.Segments.{last, segmentsAt}
+use Rattle.segments.specs.Segments.{last, segments_at}
 use Rattle.segments.specs.Start.{fixed, held, place, first}
 use Rattle.blocking.specs.declared.Released.TheVariants.{NoOne}
 use Rattle.iterate.specs.declared.Iterate.{Iterate}
 
 -- `segments.iter().map(|s| s.points[0] >= s.points[s.last()]).collect()`
-unfoldable pub allFixed : (n : ℕ) (segments : List Segments) → List Bool
-allFixed n segments = tab n (λ i. fixed (segmentsAt segments i))
+unfoldable pub all_fixed : (n : ℕ) (segments : List Segments) → List Bool
+all_fixed n segments = tab n (λ i. fixed (segments_at segments i))
 
 -- `DVector::from_fn(n, |i, _| ..)`
-unfoldable pub allHeld : (n : ℕ) (segments : List Segments) (start : List Float) → List Float
-allHeld n segments start = tab n (λ i. held (segmentsAt segments i) (at start i))
+unfoldable pub all_held : (n : ℕ) (segments : List Segments) (start : List Float) → List Float
+all_held n segments start = tab n (λ i. held (segments_at segments i) (at start i))
 
 -- `(0..n).map(|i| ..).collect()`
-unfoldable pub allPlaced : (n : ℕ) (segments : List Segments) (x : List Float) → List Spot
-allPlaced n segments x = tab n (λ i. record { state = place (segmentsAt segments i) (at x i) })
+unfoldable pub all_placed : (n : ℕ) (segments : List Segments) (x : List Float) → List Spot
+all_placed n segments x = tab n (λ i. record { state = place (segments_at segments i) (at x i) })
 
 -- `s.slopes.iter()`, `.fold(m, |m, s| m.max(s.abs()))`
-unfoldable pub slopesAmax : Segments → (m : Float) → Float
-slopesAmax s m = fold (last s) (λ j t. max t (abs (at s.slopes j))) m
+unfoldable pub slopes_amax : Segments → (m : Float) → Float
+slopes_amax s m = fold (last s) (λ j t. max t (abs (at s.slopes j))) m
 
 -- `segments.iter().flat_map(|s| s.slopes.iter()).fold(0.0f64, |m, s| m.max(s.abs()))`
-unfoldable pub slopeAmax : (n : ℕ) (segments : List Segments) → Float
-slopeAmax n segments = fold n (λ i m. slopesAmax (segmentsAt segments i) m) f0
+unfoldable pub slope_amax : (n : ℕ) (segments : List Segments) → Float
+slope_amax n segments = fold n (λ i m. slopes_amax (segments_at segments i) m) f0
 
 -- where the passes start: the start held to its range, each variable's first state, no variable refused or released
 unfoldable pub started : (n : ℕ) (segments : List Segments) (start : List Float) → Iterate
 started n segments start =
-    let x = over (allHeld n segments start) (replicate Sizes.variables f0) in
+    let x = over (all_held n segments start) (replicate Sizes.variables f0) in
     record {
       board =
           record {
             x = x;
-            state = over (allPlaced n segments (take n x)) (replicate Sizes.variables first);
+            state = over (all_placed n segments (take n x)) (replicate Sizes.variables first);
             refused = replicate Sizes.variables false;
           };
       released = NoOne;

@@ -16,7 +16,7 @@ use segments::{Segments, Spot, State};
 
 pub fn all_fixed(segments: [Segments; sizes::VARIABLES], n: usize) -> [bool; sizes::VARIABLES]
     requires { (n ≤ Sizes.variables) × AllCut n segments }
-    ensures { result ≡ over (Starting.allFixed n segments) (replicate Sizes.variables false) }
+    ensures { result ≡ over (Starting.all_fixed n segments) (replicate Sizes.variables false) }
 {
     let mut fixed = [false; sizes::VARIABLES];
     for i in 0..n {
@@ -32,7 +32,7 @@ pub fn all_held(
     start: &[f64],
 ) -> [f64; sizes::VARIABLES]
     requires { (n ≤ Sizes.variables) × (n ≤ length start.now) × AllCut n segments }
-    ensures { result ≡ over (Starting.allHeld n segments start.now) (replicate Sizes.variables f0) }
+    ensures { result ≡ over (Starting.all_held n segments start.now) (replicate Sizes.variables f0) }
 {
     let mut x = [0.0; sizes::VARIABLES];
     for i in 0..n {
@@ -48,7 +48,7 @@ pub fn all_placed(
     x: &[f64],
 ) -> [Spot; sizes::VARIABLES]
     requires { (n ≤ Sizes.variables) × (n ≤ length x.now) × AllCut n segments }
-    ensures value { result ≡ over (Starting.allPlaced n segments x.now) (replicate Sizes.variables first) }
+    ensures value { result ≡ over (Starting.all_placed n segments x.now) (replicate Sizes.variables first) }
     ensures all_placed { AllPlaced n segments result }
 {
     let mut state = [Spot {
@@ -65,7 +65,7 @@ pub fn all_placed(
 
 fn slopes_amax(s: Segments, from: f64) -> f64
     requires { Cut s }
-    ensures { result ≡ Starting.slopesAmax s from }
+    ensures { result ≡ Starting.slopes_amax s from }
 {
     let slopes = s.slopes;
     let last = s.last();
@@ -79,7 +79,7 @@ fn slopes_amax(s: Segments, from: f64) -> f64
 // The largest slope of all.
 pub fn slope_amax(segments: [Segments; sizes::VARIABLES], n: usize) -> f64
     requires { (n ≤ Sizes.variables) × AllCut n segments }
-    ensures { result ≡ Starting.slopeAmax n segments }
+    ensures { result ≡ Starting.slope_amax n segments }
 {
     let mut m = 0.0;
     for i in 0..n {
@@ -97,7 +97,7 @@ pub fn magnitudes(
 ) -> Magnitudes
     requires { (n ≤ Sizes.variables) × (n * n ≤ length q.now) × (n ≤ length c.now) × AllCut n segments }
     ensures q_value { result.q ≡ amax (n * n) q.now }
-    ensures linear_value { result.linear ≡ max (amax n c.now) (Starting.slopeAmax n segments) }
+    ensures linear_value { result.linear ≡ max (amax n c.now) (Starting.slope_amax n segments) }
 {
     let c_amax = reductions::amax(c, n);
     let slopes = slope_amax(segments, n);

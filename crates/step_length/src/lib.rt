@@ -2,7 +2,7 @@
 ghost use Rattle.std.specs.Prelude.{◌≡◌, ◌≤◌, length};
 ghost use Rattle.folds.specs.Best.{better};
 ghost use Rattle.step_length.specs.StepLength as StepLength;
-ghost use Rattle.step_length.specs.StepLength.{asBest, shorter, Entries};
+ghost use Rattle.step_length.specs.StepLength.{as_best, shorter, Entries};
 
 const ROUNDING: f64 = 1e-12;
 
@@ -22,7 +22,7 @@ pub enum Hit {
 
 // Of two, the one with the smaller step, and the first where they are equal.
 fn min_by(best: Hit, other: Hit) -> Hit
-    ensures { asBest result ≡ better shorter (asBest best) (asBest other) }
+    ensures { as_best result ≡ better shorter (as_best best) (as_best other) }
 {
     let Hit::Found(t, _, _) = other else {
         return best;
@@ -37,7 +37,7 @@ fn min_by(best: Hit, other: Hit) -> Hit
 }
 
 fn moves_down(d: f64, lower: f64, tolerance: f64) -> bool
-    ensures { result ≡ StepLength.movesDown d lower tolerance }
+    ensures { result ≡ StepLength.moves_down d lower tolerance }
 {
     if d < -tolerance {
         return arith::is_finite(lower);
@@ -46,7 +46,7 @@ fn moves_down(d: f64, lower: f64, tolerance: f64) -> bool
 }
 
 fn moves_up(d: f64, upper: f64, tolerance: f64) -> bool
-    ensures { result ≡ StepLength.movesUp d upper tolerance }
+    ensures { result ≡ StepLength.moves_up d upper tolerance }
 {
     if d > tolerance {
         return arith::is_finite(upper);
@@ -56,7 +56,7 @@ fn moves_up(d: f64, upper: f64, tolerance: f64) -> bool
 
 // The end that entry k reaches, moving from x along d.
 fn end_reached(x: f64, d: f64, lower: f64, upper: f64, tolerance: f64, k: usize) -> Hit
-    ensures { result ≡ StepLength.endReached x d lower upper tolerance k }
+    ensures { result ≡ StepLength.end_reached x d lower upper tolerance k }
 {
     if moves_down(d, lower, tolerance) {
         return Hit::Found((x - lower) / -d, k, Side::Lower);
@@ -70,7 +70,7 @@ fn end_reached(x: f64, d: f64, lower: f64, upper: f64, tolerance: f64, k: usize)
 // The largest step along d that keeps the first n entries between their ends.
 pub fn ratio_test(x: &[f64], d: &[f64], lower: &[f64], upper: &[f64], n: usize) -> Hit
     requires { Entries n x.now d.now lower.now upper.now }
-    ensures { result ≡ StepLength.ratioTest n x.now d.now lower.now upper.now }
+    ensures { result ≡ StepLength.ratio_test n x.now d.now lower.now upper.now }
 {
     let tolerance = ROUNDING * reductions::amax(d, n);
     let mut best = Hit::Nothing;
@@ -84,7 +84,7 @@ pub fn ratio_test(x: &[f64], d: &[f64], lower: &[f64], upper: &[f64], n: usize) 
 // The full step's tolerance: of the target's first `solved` entries and the first `originals` of x, no slack among either.
 pub fn step_tolerance(target: &[f64], solved: usize, x: &[f64], originals: usize) -> f64
     requires { (solved ≤ length target.now) × (originals ≤ length x.now) }
-    ensures { result ≡ StepLength.stepTolerance solved target.now originals x.now }
+    ensures { result ≡ StepLength.step_tolerance solved target.now originals x.now }
 {
     ROUNDING
         * arith::max(
@@ -95,7 +95,7 @@ pub fn step_tolerance(target: &[f64], solved: usize, x: &[f64], originals: usize
 
 // The end that entry k passes on the way from x to its target.
 fn end_passed(x: f64, target: f64, lower: f64, upper: f64, tolerance: f64, k: usize) -> Hit
-    ensures { result ≡ StepLength.endPassed x target lower upper tolerance k }
+    ensures { result ≡ StepLength.end_passed x target lower upper tolerance k }
 {
     if target < lower - tolerance {
         return Hit::Found((x - lower) / (x - target), k, Side::Lower);
@@ -117,7 +117,7 @@ pub fn first_passed(
 ) -> Hit
     requires { Entries n x.now target.now lower.now upper.now }
     ensures { result
-        ≡ StepLength.firstPassed n x.now target.now lower.now upper.now tolerance }
+        ≡ StepLength.first_passed n x.now target.now lower.now upper.now tolerance }
 {
     let mut best = Hit::Nothing;
     for k in 0..n {

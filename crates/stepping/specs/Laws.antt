@@ -2,18 +2,18 @@
 use Rattle.std.specs.Prelude.{◌≡◌, refl, Bool, false, List, ℕ, length, set, Float}
 use Rattle.std.proofs.Common.{ap, ◌∙◌}
 use Rattle.std.proofs.Math.ListN.{length-set}
-use Rattle.folds.specs.Fold.{fold-keep, ended, Out, out}
+use Rattle.folds.specs.Fold.{fold_keep, ended, Out, out}
 use Rattle.arith.specs.Float.{fadd, fmul, at}
 use Rattle.arith.specs.Scalar.{clamp}
 use Rattle.matrix.specs.Matrix.{index}
-use Rattle.stepping.specs.Stepping.{moveAlong, settleOne, settle}
+use Rattle.stepping.specs.Stepping.{move_along, settle_one, settle}
 
-pub length-moveAlong : (indices : List ℕ) (xFree direction : List Float) (step : Float) (lower upper x : List Float) →
-    length (moveAlong indices xFree direction step lower upper x) ≡ length x
-unfolding moveAlong
-length-moveAlong indices xFree direction step lower upper x =
-    fold-keep (λ l. length l ≡ length x) (length indices)
-    (λ k l. set l (index indices k) (clamp (fadd (at xFree k) (fmul step (at direction k))) (at lower k) (at upper k))) x refl
+pub length-move_along : (indices : List ℕ) (x_free direction : List Float) (step : Float) (lower upper x : List Float) →
+    length (move_along indices x_free direction step lower upper x) ≡ length x
+unfolding move_along
+length-move_along indices x_free direction step lower upper x =
+    fold_keep (λ l. length l ≡ length x) (length indices)
+    (λ k l. set l (index indices k) (clamp (fadd (at x_free k) (fmul step (at direction k))) (at lower k) (at upper k))) x refl
     (λ k l h p. simp length-set p)
 
 pub length-settle : (indices : List ℕ) (target lower upper : List Float) (tolerance : Float) (x y : List Float) (moved : Bool) →
@@ -21,9 +21,9 @@ pub length-settle : (indices : List ℕ) (target lower upper : List Float) (tole
 unfolding settle ended
 length-settle indices target lower upper tolerance x y moved e =
     ap (λ (o : Out (List Float)). length (ended o)) e
-    ∙ fold-keep (λ o. length (ended o) ≡ length x) (length indices)
-    (λ k. settleOne (index indices k) (clamp (at target k) (at lower k) (at upper k)) tolerance) (out false x) refl
+    ∙ fold_keep (λ o. length (ended o) ≡ length x) (length indices)
+    (λ k. settle_one (index indices k) (clamp (at target k) (at lower k) (at upper k)) tolerance) (out false x) refl
     (λ k o h p. one (index indices k) (clamp (at target k) (at lower k) (at upper k)) o p)
   where
-    one : (i : ℕ) (next : Float) (o : Out (List Float)) → length (ended o) ≡ length x → length (ended (settleOne i next tolerance o)) ≡ length x
-    one i next (out m l) p = unfold settleOne in simp length-set p
+    one : (i : ℕ) (next : Float) (o : Out (List Float)) → length (ended o) ≡ length x → length (ended (settle_one i next tolerance o)) ≡ length x
+    one i next (out m l) p = unfold settle_one in simp length-set p

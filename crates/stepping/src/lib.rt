@@ -20,7 +20,7 @@ pub fn move_along(
         × (length indices.now ≤ length lower.now)
         × (length indices.now ≤ length upper.now) }
     ensures { x.new
-        ≡ Stepping.moveAlong indices.now x_free.now direction.now step lower.now upper.now
+        ≡ Stepping.move_along indices.now x_free.now direction.now step lower.now upper.now
         x.old }
 {
     for k in 0..indices.len() {
@@ -31,7 +31,7 @@ pub fn move_along(
 // Puts variable i at `next`; whether that or one before it moved by more than the tolerance.
 fn settle_one(x: &mut [f64], i: usize, next: f64, tolerance: f64, moved: bool) -> bool
     requires { i < length x.old }
-    ensures { out result x.new ≡ Stepping.settleOne i next tolerance (out moved x.old) }
+    ensures { out result x.new ≡ Stepping.settle_one i next tolerance (out moved x.old) }
 {
     let moves = arith::abs(next - x[i]) > tolerance;
     x[i] = next;
@@ -68,7 +68,7 @@ pub fn settle(
 // Whether the first n entries are equal: a NaN differs from itself, and -0 equals +0.
 pub fn same_point(a: &[f64], b: &[f64], n: usize) -> bool
     requires { (n ≤ length a.now) × (n ≤ length b.now) }
-    ensures { result ≡ Stepping.samePoint n a.now b.now }
+    ensures { result ≡ Stepping.same_point n a.now b.now }
 {
     for i in 0..n {
         if a[i] == b[i] {} else {

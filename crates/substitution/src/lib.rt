@@ -13,7 +13,7 @@ fn feasible_one(
     u: &[f64],
 ) -> f64
     requires { (p * m ≤ length coefficients.now) × (m ≤ length b.now) × (j < m) × (i < p) × (i ≤ length u.now) }
-    ensures { result ≡ Substitution.feasibleOne p coefficients.now b.now j i u.now }
+    ensures { result ≡ Substitution.feasible_one p coefficients.now b.now j i u.now }
 {
     let mut known = 0.0;
     for k in 0..i {
@@ -63,7 +63,7 @@ fn known_from(
         × (i < p)
         × (first ≤ rank)
         × (m ≤ length lambda.now) }
-    ensures { result ≡ Substitution.knownFrom p coefficients.now pivots.now rank i first lambda.now }
+    ensures { result ≡ Substitution.known_from p coefficients.now pivots.now rank i first lambda.now }
 {
     let mut known = 0.0;
     for k in first..rank {
@@ -89,7 +89,7 @@ fn multiplier_one(
         × Below rank pivots.now m
         × (i < rank)
         × (m ≤ length lambda.now) }
-    ensures { result ≡ Substitution.multiplierOne p coefficients.now h pivots.now rank i lambda.now }
+    ensures { result ≡ Substitution.multiplier_one p coefficients.now h pivots.now rank i lambda.now }
 {
     let known = known_from(coefficients, p, m, pivots, rank, i, i + 1, lambda);
     (h - known) / columns::get(coefficients, p, m, i, pivots[i])

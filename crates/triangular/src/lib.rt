@@ -42,7 +42,7 @@ pub fn forward(l: &[f64], n: usize, k: usize, x: &mut [f64])
 // Solves l y = x in place; false where a diagonal entry is 0.
 pub fn solve_lower_triangular(l: &[f64], n: usize, x: &mut [f64]) -> bool
     requires { (n * n ≤ length l.now) × (n ≤ length x.old) }
-    ensures { out result x.new ≡ Triangular.solveLower l.now n x.old }
+    ensures { out result x.new ≡ Triangular.solve_lower l.now n x.old }
 {
     if regular(l, n) {
         forward(l, n, n, x);
@@ -53,7 +53,7 @@ pub fn solve_lower_triangular(l: &[f64], n: usize, x: &mut [f64]) -> bool
 
 fn solve_column(l: &[f64], n: usize, x: &mut [f64], m: usize, j: usize) -> bool
     requires { (n * n ≤ length l.now) × (n * m ≤ length x.old) × (j < m) }
-    ensures { out result x.new ≡ Triangular.solveColumn l.now n j x.old }
+    ensures { out result x.new ≡ Triangular.solve_column l.now n j x.old }
 {
     let b = j * n;
     let e = b + n;
@@ -63,7 +63,7 @@ fn solve_column(l: &[f64], n: usize, x: &mut [f64], m: usize, j: usize) -> bool
 // Solves l y = x in place for the m columns of x.
 pub fn solve_lower_columns(l: &[f64], n: usize, x: &mut [f64], m: usize) -> bool
     requires { (n * n ≤ length l.now) × (n * m ≤ length x.old) }
-    ensures { out result x.new ≡ Triangular.solveLowerColumns l.now n m x.old }
+    ensures { out result x.new ≡ Triangular.solve_lower_columns l.now n m x.old }
 {
     for j in 0..m {
         if !solve_column(l, n, x, m, j) {
@@ -75,7 +75,7 @@ pub fn solve_lower_columns(l: &[f64], n: usize, x: &mut [f64], m: usize) -> bool
 
 fn known_below(l: &[f64], n: usize, i: usize, x: &[f64]) -> f64
     requires { (n * n ≤ length l.now) × (i < n) × (n ≤ length x.now) }
-    ensures { result ≡ Triangular.knownBelow n l.now n i x.now }
+    ensures { result ≡ Triangular.known_below n l.now n i x.now }
 {
     let mut s = 0.0;
     for j in i + 1..n {
@@ -86,7 +86,7 @@ fn known_below(l: &[f64], n: usize, i: usize, x: &[f64]) -> f64
 
 fn unknown_back(l: &[f64], n: usize, i: usize, x: &mut [f64])
     requires { (n * n ≤ length l.now) × (i < n) × (n ≤ length x.old) }
-    ensures { x.new ≡ Triangular.unknownBack l.now n i x.old }
+    ensures { x.new ≡ Triangular.unknown_back l.now n i x.old }
 {
     let s = known_below(l, n, i, &x[..]);
     x[i] = (x[i] - s) / columns::get(l, n, n, i, i);
@@ -104,7 +104,7 @@ fn backward(l: &[f64], n: usize, x: &mut [f64])
 // Solves (l transposed) y = x in place; false where a diagonal entry is 0.
 pub fn tr_solve_lower_triangular(l: &[f64], n: usize, x: &mut [f64]) -> bool
     requires { (n * n ≤ length l.now) × (n ≤ length x.old) }
-    ensures { out result x.new ≡ Triangular.trSolveLower l.now n x.old }
+    ensures { out result x.new ≡ Triangular.tr_solve_lower l.now n x.old }
 {
     if regular(l, n) {
         backward(l, n, x);

@@ -4,7 +4,7 @@ ghost use Rattle.sizes.specs.Sizes.{variables};
 ghost use Rattle.turnover.specs.Turnover as Turnover;
 
 fn first_raise(pull: f64) -> f64
-    ensures { result ≡ Turnover.firstRaise pull }
+    ensures { result ≡ Turnover.first_raise pull }
 {
     if pull > 0.0 {
         return pull;
@@ -15,7 +15,7 @@ fn first_raise(pull: f64) -> f64
 // The slope max |Qa − c| at which every variable that can stay at its kink a does, or 1 if that's 0.
 pub fn kink_multiplier(q: &[f64], c: &[f64], at: &[f64], n: usize) -> f64
     requires { (n ≤ variables) × (n * n ≤ length q.now) × (n ≤ length c.now) × (n ≤ length at.now) }
-    ensures { result ≡ Turnover.kinkMultiplier n q.now c.now at.now }
+    ensures { result ≡ Turnover.kink_multiplier n q.now c.now at.now }
 {
     let gradient = dense::mul_vec(q, n, n, at);
     let pull = dense::sub(&gradient[..n], c, n);
@@ -24,7 +24,7 @@ pub fn kink_multiplier(q: &[f64], c: &[f64], at: &[f64], n: usize) -> f64
 
 // How far a sum of so many terms, none larger than `size`, can round.
 pub fn sum_rounding(terms: usize, size: f64) -> f64
-    ensures { result ≡ Turnover.sumRounding terms size }
+    ensures { result ≡ Turnover.sum_rounding terms size }
 {
     4.0 * arith::from_usize(terms) * arith::EPSILON * size
 }

@@ -7,8 +7,8 @@ use Rattle.arith.specs.Float.{fadd, fsub, fmul, fdiv, sqrt, f0, f1, at, sum}
 use Rattle.arith.specs.Scalar.{abs, max, is_finite}
 use Rattle.reductions.specs.Reductions.{amax}
 use Rattle.vector.specs.Vector.{div}
-use Rattle.columns.specs.Columns.{cell, column, columnsAmax}
-use Rattle.matrix.specs.Matrix.{rowsDivided, columnsDivided}
+use Rattle.columns.specs.Columns.{cell, column, columns_amax}
+use Rattle.matrix.specs.Matrix.{rows_divided, columns_divided}
 
 -- ---- `checked`: whether x satisfies Eᵀx = b in the original units, each constraint to within 1e-8 of the size of its terms
 -- `(column / scale).component_mul(&x)`
@@ -16,17 +16,17 @@ unfoldable pub terms : (n : ℕ) (e x : List Float) (scale : Float) → List Flo
 terms n e x scale = tab n (λ i. fmul (fdiv (at e i) scale) (at x i))
 
 -- `terms.iter().map(|t| t / largest).sum()` and `terms.iter().map(|t| (t / largest).abs()).sum()`
-unfoldable pub sumQuotients : (n : ℕ) (ts : List Float) (by : Float) → Float
-sumQuotients n ts by = sum n (λ i. fdiv (at ts i) by)
+unfoldable pub sum_quotients : (n : ℕ) (ts : List Float) (by : Float) → Float
+sum_quotients n ts by = sum n (λ i. fdiv (at ts i) by)
 
-unfoldable pub sumSizes : (n : ℕ) (ts : List Float) (by : Float) → Float
-sumSizes n ts by = sum n (λ i. abs (fdiv (at ts i) by))
+unfoldable pub sum_sizes : (n : ℕ) (ts : List Float) (by : Float) → Float
+sum_sizes n ts by = sum n (λ i. abs (fdiv (at ts i) by))
 
 unfoldable pub residual : (n : ℕ) (ts : List Float) (target largest : Float) → Float
-residual n ts target largest = fsub (sumQuotients n ts largest) (fdiv target largest)
+residual n ts target largest = fsub (sum_quotients n ts largest) (fdiv target largest)
 
 unfoldable pub size : (n : ℕ) (ts : List Float) (target largest : Float) → Float
-size n ts target largest = fadd (sumSizes n ts largest) (abs (fdiv target largest))
+size n ts target largest = fadd (sum_sizes n ts largest) (abs (fdiv target largest))
 
 -- 1e-8
 abbrev pub rounding : Float
@@ -39,58 +39,58 @@ meets n ts target largest =
     (pick (lt (fmul rounding (size n ts target largest)) (abs (residual n ts target largest))) false true)
 
 -- `terms.amax().max(target.abs())`
-unfoldable pub largestOf : (n : ℕ) (ts : List Float) (target : Float) → Float
-largestOf n ts target = max (amax n ts) (abs target)
+unfoldable pub largest_of : (n : ℕ) (ts : List Float) (target : Float) → Float
+largest_of n ts target = max (amax n ts) (abs target)
 
-unfoldable pub columnMet : (n : ℕ) (ts : List Float) (target : Float) → Bool
-columnMet n ts target =
-    pick (is_finite (largestOf n ts target))
-    (pick (eq (largestOf n ts target) f0) true (meets n ts target (largestOf n ts target)))
+unfoldable pub column_met : (n : ℕ) (ts : List Float) (target : Float) → Bool
+column_met n ts target =
+    pick (is_finite (largest_of n ts target))
+    (pick (eq (largest_of n ts target) f0) true (meets n ts target (largest_of n ts target)))
     false
 
 unfoldable pub met : (n : ℕ) (x e : List Float) (target scale : Float) → Bool
-met n x e target scale = columnMet n (terms n e x scale) (fdiv target scale)
+met n x e target scale = column_met n (terms n e x scale) (fdiv target scale)
 
 unfoldable pub checked : (n m : ℕ) (x e b columns : List Float) → Bool
 checked n m x e b columns = all m (λ j. met n x (column n e j) (at b j) (at columns j))
 
 -- ---- `Units`: the problem restated in u = Dx
 -- `s if s.is_finite() && s > 0.0 => s, _ => 1.0`
-unfoldable pub scaleOr1 : Float → Float
-scaleOr1 s = pick (is_finite s) (pick (lt f0 s) s f1) f1
+unfoldable pub scale_or1 : Float → Float
+scale_or1 s = pick (is_finite s) (pick (lt f0 s) s f1) f1
 
-unfoldable pub scalesOr1 : (n : ℕ) (l : List Float) → List Float
-scalesOr1 n l = tab n (λ i. scaleOr1 (at l i))
+unfoldable pub scales_or1 : (n : ℕ) (l : List Float) → List Float
+scales_or1 n l = tab n (λ i. scale_or1 (at l i))
 
 -- the largest entry of each column of E, or 1 where that's zero or not finite
-unfoldable pub columnScales : (n m : ℕ) (e : List Float) → List Float
-columnScales n m e = scalesOr1 m (columnsAmax n m e)
+unfoldable pub column_scales : (n m : ℕ) (e : List Float) → List Float
+column_scales n m e = scales_or1 m (columns_amax n m e)
 
 -- `k[(i, j)] / scales[i] / scales[j]`: dividing by each scale in turn
-unfoldable pub unitsK : (n : ℕ) (k scales : List Float) → List Float
-unitsK n k scales = columnsDivided n n (rowsDivided n n k scales) scales
+unfoldable pub units_k : (n : ℕ) (k scales : List Float) → List Float
+units_k n k scales = columns_divided n n (rows_divided n n k scales) scales
 
 -- `e[(i, j)] / column_scales[j] / scales[i]`
-unfoldable pub unitsE : (n m : ℕ) (e scales columns : List Float) → List Float
-unitsE n m e scales columns = rowsDivided n m (columnsDivided n m e columns) scales
+unfoldable pub units_e : (n m : ℕ) (e scales columns : List Float) → List Float
+units_e n m e scales columns = rows_divided n m (columns_divided n m e columns) scales
 
 -- `c.component_div(&scales)`, and each entry of b over its column's scale
-abbrev pub unitsC : (n : ℕ) (c scales : List Float) → List Float
-unitsC n c scales = div n c scales
+abbrev pub units_c : (n : ℕ) (c scales : List Float) → List Float
+units_c n c scales = div n c scales
 
-abbrev pub unitsB : (m : ℕ) (b columns : List Float) → List Float
-unitsB m b columns = div m b columns
+abbrev pub units_b : (m : ℕ) (b columns : List Float) → List Float
+units_b m b columns = div m b columns
 
 -- `original`: x = D⁻¹u, and `original_multipliers`
 abbrev pub original : (n : ℕ) (u scales : List Float) → List Float
 original n u scales = div n u scales
 
-abbrev pub originalMultipliers : (m : ℕ) (multipliers columns : List Float) → List Float
-originalMultipliers m multipliers columns = div m multipliers columns
+abbrev pub original_multipliers : (m : ℕ) (multipliers columns : List Float) → List Float
+original_multipliers m multipliers columns = div m multipliers columns
 
 -- ---- `diagonal_scales`: sqrt(Kᵢᵢ) for each variable, or 1 where that's zero or not finite
-unfoldable pub diagonalScale : (n : ℕ) (k : List Float) (i : ℕ) → Float
-diagonalScale n k i = scaleOr1 (sqrt (cell k n i i))
+unfoldable pub diagonal_scale : (n : ℕ) (k : List Float) (i : ℕ) → Float
+diagonal_scale n k i = scale_or1 (sqrt (cell k n i i))
 
-unfoldable pub diagonalScales : (n : ℕ) (k : List Float) → List Float
-diagonalScales n k = tab n (diagonalScale n k)
+unfoldable pub diagonal_scales : (n : ℕ) (k : List Float) → List Float
+diagonal_scales n k = tab n (diagonal_scale n k)

@@ -25,7 +25,7 @@ fn terms(e: &[f64], x: &[f64], n: usize, scale: f64) -> [f64; sizes::VARIABLES]
 
 fn sum_quotients(terms: &[f64], n: usize, by: f64) -> f64
     requires { n ≤ length terms.now }
-    ensures { result ≡ Units.sumQuotients n terms.now by }
+    ensures { result ≡ Units.sum_quotients n terms.now by }
 {
     let mut s = 0.0;
     for i in 0..n {
@@ -36,7 +36,7 @@ fn sum_quotients(terms: &[f64], n: usize, by: f64) -> f64
 
 fn sum_sizes(terms: &[f64], n: usize, by: f64) -> f64
     requires { n ≤ length terms.now }
-    ensures { result ≡ Units.sumSizes n terms.now by }
+    ensures { result ≡ Units.sum_sizes n terms.now by }
 {
     let mut s = 0.0;
     for i in 0..n {
@@ -65,7 +65,7 @@ fn meets(terms: &[f64], n: usize, target: f64, largest: f64) -> bool
 // The same of a whole column: terms and a target of 0 meet, and an infinite one doesn't.
 fn column_met(terms: &[f64], n: usize, target: f64) -> bool
     requires { n ≤ length terms.now }
-    ensures { result ≡ Units.columnMet n terms.now target }
+    ensures { result ≡ Units.column_met n terms.now target }
 {
     let largest = arith::max(reductions::amax(terms, n), arith::abs(target));
     if arith::is_finite(largest) {
@@ -100,7 +100,7 @@ pub fn checked(x: &[f64], e: &[f64], b: &[f64], columns: &[f64], n: usize, m: us
 
 // s if it's finite and above 0, or 1.
 pub fn scale_or_1(s: f64) -> f64
-    ensures { result ≡ Units.scaleOr1 s }
+    ensures { result ≡ Units.scale_or1 s }
 {
     if arith::is_finite(s) {
         if s > 0.0 {
@@ -112,7 +112,7 @@ pub fn scale_or_1(s: f64) -> f64
 
 fn scales_or_1(y: &mut [f64], n: usize)
     requires { n ≤ length y.old }
-    ensures { y.new ≡ over (Units.scalesOr1 n y.old) y.old }
+    ensures { y.new ≡ over (Units.scales_or1 n y.old) y.old }
 {
     for i in 0..n {
         y[i] = scale_or_1(y[i]);
@@ -121,7 +121,7 @@ fn scales_or_1(y: &mut [f64], n: usize)
 
 pub fn column_scales(e: &[f64], n: usize, m: usize) -> [f64; sizes::COLUMNS]
     requires { (m ≤ Sizes.columns) × (n * m ≤ length e.now) }
-    ensures { take m result ≡ Units.columnScales n m e.now }
+    ensures { take m result ≡ Units.column_scales n m e.now }
 {
     let mut y = [0.0; sizes::COLUMNS];
     columns::columns_amax(e, n, m, &mut y);
@@ -132,7 +132,7 @@ pub fn column_scales(e: &[f64], n: usize, m: usize) -> [f64; sizes::COLUMNS]
 // K in units, in place; dividing by each scale in turn, so that tiny scales' product can't underflow.
 pub fn units_k(k: &mut [f64], n: usize, scales: &[f64])
     requires { (n * n ≤ length k.old) × (n ≤ length scales.now) }
-    ensures { k.new ≡ over (Units.unitsK n k.old scales.now) k.old }
+    ensures { k.new ≡ over (Units.units_k n k.old scales.now) k.old }
 {
     matrix::divide_rows(k, n, n, scales);
     matrix::divide_columns(k, n, n, scales);
@@ -142,7 +142,7 @@ pub fn units_k(k: &mut [f64], n: usize, scales: &[f64])
 pub fn units_e(e: &mut [f64], n: usize, m: usize, scales: &[f64], columns: &[f64])
     requires { (n * m ≤ length e.old) × (n ≤ length scales.now) × (m ≤ length columns.now) }
     ensures { e.new
-        ≡ over (Units.unitsE n m e.old scales.now columns.now) e.old }
+        ≡ over (Units.units_e n m e.old scales.now columns.now) e.old }
 {
     matrix::divide_columns(e, n, m, columns);
     matrix::divide_rows(e, n, m, scales);
@@ -150,14 +150,14 @@ pub fn units_e(e: &mut [f64], n: usize, m: usize, scales: &[f64], columns: &[f64
 
 fn diagonal_scale(k: &[f64], n: usize, i: usize) -> f64
     requires { (n * n ≤ length k.now) × (i < n) }
-    ensures { result ≡ Units.diagonalScale n k.now i }
+    ensures { result ≡ Units.diagonal_scale n k.now i }
 {
     scale_or_1(root::sqrt(columns::get(k, n, n, i, i)))
 }
 
 fn write_diagonal_scales(k: &[f64], n: usize, y: &mut [f64])
     requires { (n * n ≤ length k.now) × (n ≤ length y.old) }
-    ensures { y.new ≡ over (Units.diagonalScales n k.now) y.old }
+    ensures { y.new ≡ over (Units.diagonal_scales n k.now) y.old }
 {
     for i in 0..n {
         y[i] = diagonal_scale(k, n, i);
@@ -166,7 +166,7 @@ fn write_diagonal_scales(k: &[f64], n: usize, y: &mut [f64])
 
 pub fn diagonal_scales(k: &[f64], n: usize) -> [f64; sizes::VARIABLES]
     requires { (n ≤ Sizes.variables) × (n * n ≤ length k.now) }
-    ensures { take n result ≡ Units.diagonalScales n k.now }
+    ensures { take n result ≡ Units.diagonal_scales n k.now }
 {
     let mut y = [0.0; sizes::VARIABLES];
     write_diagonal_scales(k, n, &mut y);

@@ -3,41 +3,41 @@ use Rattle.std.specs.Prelude.{◌≡◌, List, ℕ, ◌+◌, ◌-◌, ◌*◌, �
 use Rattle.std.proofs.Common.{◌∙◌, ⊎_elim, eq-or-lt_of_le, arith}
 use Rattle.folds.specs.Fold.{over}
 use Rattle.folds.specs.Decide.{lt-or-le}
-use Rattle.folds.specs.Tab.{tabM-same, over-in}
+use Rattle.folds.specs.Tab.{tab_m-same, over_in}
 use Rattle.arith.specs.Float.{at}
 use Rattle.vector.specs.Vector.{copy}
-use Rattle.vector.specs.Laws.{Same, length-copy, copy_at}
+use Rattle.vector.specs.Laws.{Same, length-copy, copy-at}
 use Rattle.columns.specs.Columns.{cell}
-use Rattle.columns.specs.Laws.{cell_same}
+use Rattle.columns.specs.Laws.{cell-same}
 use Rattle.triangular.specs.Laws.{Lower}
-use Rattle.update.specs.Update.{staying, closedEntry, closed, leave, removeColumn, standing, joinedEntry, joining, joined, join, insertColumn}
+use Rattle.update.specs.Update.{staying, closed_entry, closed, leave, remove_column, standing, joined_entry, joining, joined, join, insert_column}
 use Rattle.update.specs.Leaving.{staying-below}
-use Rattle.update.specs.Lower.{standing-low, standing-high, removed-lower, joinedEntry-same, joining-lower}
+use Rattle.update.specs.Lower.{standing-low, standing-high, removed-lower, joined_entry-same, joining-lower}
 
 same-lower : (n : ℕ) (a b : List Float) → Same (n * n) a b → Lower n a b
-same-lower n a b e i j g q = cell_same n n i j q (omega arith) a b e
+same-lower n a b e i j g q = cell-same n n i j q (omega arith) a b e
 
 module _ (n p : ℕ) (a b : List Float) (h : p ≤ n) (e : Same ((n + 1) * (n + 1)) a b) where
-  closed_same : closed n p a ≡ closed n p b
-  unfolding closed closedEntry
-  closed_same =
-      tabM-same n n (closedEntry n p a) (closedEntry n p b)
-      (λ i j u v. cell_same (n + 1) (n + 1) (staying p i) (staying p j) (staying-below n p i u) (staying-below n p j v) a b e)
+  closed-same : closed n p a ≡ closed n p b
+  unfolding closed closed_entry
+  closed-same =
+      tab_m-same n n (closed_entry n p a) (closed_entry n p b)
+      (λ i j u v. cell-same (n + 1) (n + 1) (staying p i) (staying p j) (staying-below n p i u) (staying-below n p j v) a b e)
 
-  leave_same : (o : List Float) → leave n p a o ≡ leave n p b o
+  leave-same : (o : List Float) → leave n p a o ≡ leave n p b o
   unfolding leave
-  leave_same o = rw (closed_same, removed-lower n p a b h (same-lower (n + 1) a b e))
+  leave-same o = rw (closed-same, removed-lower n p a b h (same-lower (n + 1) a b e))
 
 -- the list with the first n elements of a
 over-same : (n : ℕ) (a o : List Float) → Same n (over (copy n a) o) a
 over-same n a o i h =
-    let k : i < length (copy n a) = rw (length-copy n a) h in over-in _ (copy n a) o i k ∙ copy_at n i h a
+    let k : i < length (copy n a) = rw (length-copy n a) h in over_in _ (copy n a) o i k ∙ copy-at n i h a
 
-pub leave-copy : (k p : ℕ) (l o : List Float) → p < k → leave (k - 1) p (over (copy (k * k) l) o) l ≡ removeColumn k p l
-unfolding removeColumn
+pub leave-copy : (k p : ℕ) (l o : List Float) → p < k → leave (k - 1) p (over (copy (k * k) l) o) l ≡ remove_column k p l
+unfolding remove_column
 leave-copy k p l o h =
     let z : k - 1 + 1 ≡ k = omega arith in
-    leave_same (k - 1) p (over (copy (k * k) l) o) l (omega arith) (rw z (over-same (k * k) l o)) l
+    leave-same (k - 1) p (over (copy (k * k) l) o) l (omega arith) (rw z (over-same (k * k) l o)) l
 
 module _ (n p : ℕ) (a b : List Float) (h : p ≤ n) (e : Same (n * n) a b) where
   standing-below : (i : ℕ) → i < n + 1 → (i ≡ p → ⊥) → standing p i < n
@@ -46,19 +46,19 @@ module _ (n p : ℕ) (a b : List Float) (h : p ≤ n) (e : Same (n * n) a b) whe
       (λ (x : i ≤ p). rw (standing-low p i x) (⊎_elim (λ (y : i ≡ p). absurd (d y)) (λ (y : i < p). omega arith) (eq-or-lt_of_le x)))
       (lt-or-le p i)
 
-  entry-same : (x : List Float) (i j : ℕ) → i < n + 1 → j < n + 1 → joinedEntry n p a x i j ≡ joinedEntry n p b x i j
+  entry-same : (x : List Float) (i j : ℕ) → i < n + 1 → j < n + 1 → joined_entry n p a x i j ≡ joined_entry n p b x i j
   entry-same x i j u v =
-      joinedEntry-same n p a b x i j
-      (λ c d. cell_same n n (standing p i) (standing p j) (standing-below i u c) (standing-below j v d) a b e)
+      joined_entry-same n p a b x i j
+      (λ c d. cell-same n n (standing p i) (standing p j) (standing-below i u c) (standing-below j v d) a b e)
 
-  joined_same : (x : List Float) → joined n p a x ≡ joined n p b x
+  joined-same : (x : List Float) → joined n p a x ≡ joined n p b x
   unfolding joined
-  joined_same x = tabM-same (n + 1) (n + 1) (joinedEntry n p a x) (joinedEntry n p b x) (entry-same x)
+  joined-same x = tab_m-same (n + 1) (n + 1) (joined_entry n p a x) (joined_entry n p b x) (entry-same x)
 
   join-same : (q o : List Float) → join n p q a o ≡ join n p q b o
   unfolding join
-  join-same q o = rw (joining-lower n p a b h (same-lower n a b e) (copy (n + 1) q), joined_same (joining n p b (copy (n + 1) q)))
+  join-same q o = rw (joining-lower n p a b h (same-lower n a b e) (copy (n + 1) q), joined-same (joining n p b (copy (n + 1) q)))
 
-pub join-copy : (n p : ℕ) (q l o : List Float) → p ≤ n → join n p q (over (copy (n * n) l) o) l ≡ insertColumn n p q l
-unfolding insertColumn
+pub join-copy : (n p : ℕ) (q l o : List Float) → p ≤ n → join n p q (over (copy (n * n) l) o) l ≡ insert_column n p q l
+unfolding insert_column
 join-copy n p q l o h = join-same n p (over (copy (n * n) l) o) l h (over-same (n * n) l o) q l

@@ -2,7 +2,7 @@
 ghost use Rattle.std.specs.Prelude.{◌≡◌, ◌≤◌, ◌<◌, ◌*◌, ◌+◌, length};
 ghost use Rattle.folds.specs.Fold.{over, span};
 ghost use Rattle.sizes.specs.Sizes.{originals};
-ghost use Rattle.columns.specs.Columns.{putColumn};
+ghost use Rattle.columns.specs.Columns.{put_column};
 ghost use Rattle.update.specs.Update as Update;
 
 // Where the i-th of the n that stay stood.
@@ -19,7 +19,7 @@ fn staying(p: usize, i: usize, n: usize) -> usize
 
 fn close_column(old: &[f64], n: usize, p: usize, j: usize, l: &mut [f64])
     requires { ((n + 1) * (n + 1) ≤ length old.now) × (n < originals) × (j < n) × (n * n ≤ length l.old) }
-    ensures { l.new ≡ putColumn n n j (λ i. Update.closedEntry n p old.now i j) l.old }
+    ensures { l.new ≡ put_column n n j (λ i. Update.closed_entry n p old.now i j) l.old }
 {
     let b = staying(p, j, n);
     for i in 0..n {
@@ -40,7 +40,7 @@ fn close(old: &[f64], n: usize, p: usize, l: &mut [f64])
 
 fn removed_entry(l: &[f64], n: usize, p: usize, i: usize) -> f64
     requires { ((n + 1) * (n + 1) ≤ length l.now) × (n < originals) × (p ≤ n) × (i < n) }
-    ensures { result ≡ Update.removedEntry n p l.now i }
+    ensures { result ≡ Update.removed_entry n p l.now i }
 {
     if i < p {
         return 0.0;
@@ -70,7 +70,7 @@ fn leave(old: &[f64], n: usize, p: usize, l: &mut [f64], v: &mut [f64])
 // The factor of k variables without variable p, in place. The factor as it was goes to room.
 pub fn remove_column(l: &mut [f64], k: usize, p: usize, room: &mut [f64])
     requires { (p < k) × (k ≤ originals) × (k * k ≤ length l.old) × (k * k ≤ length room.old) }
-    ensures { l.new ≡ Update.removeColumn k p l.old }
+    ensures { l.new ≡ Update.remove_column k p l.old }
 {
     let mut v = [0.0; sizes::ORIGINALS];
     let n = k - 1;
@@ -80,7 +80,7 @@ pub fn remove_column(l: &mut [f64], k: usize, p: usize, room: &mut [f64])
 
 fn join_diagonal(x: &mut [f64], p: usize)
     requires { p < length x.old }
-    ensures { x.new ≡ Update.joinDiagonal p x.old }
+    ensures { x.new ≡ Update.join_diagonal p x.old }
 {
     let w = reductions::sum_squares(&x[..], p);
     x[p] = root::sqrt(x[p] - w);
@@ -88,7 +88,7 @@ fn join_diagonal(x: &mut [f64], p: usize)
 
 fn join_below(l: &[f64], n: usize, p: usize, x: &mut [f64])
     requires { (n * n ≤ length l.now) × (n < originals) × (p ≤ n) × (n + 1 ≤ length x.old) }
-    ensures { x.new ≡ span (p + 1) (n + 1) (Update.joinBelow n p l.now) x.old }
+    ensures { x.new ≡ span (p + 1) (n + 1) (Update.join_below n p l.now) x.old }
 {
     for i in p + 1..n + 1 {
         let s = triangular::known(l, n, i - 1, p, &x[..]);
@@ -119,7 +119,7 @@ fn standing(p: usize, i: usize, n: usize) -> usize
 
 fn joined_entry(l: &[f64], n: usize, p: usize, x: &[f64], i: usize, j: usize) -> f64
     requires { (n * n ≤ length l.now) × (p ≤ n) × (i ≤ n) × (j ≤ n) × (n < length x.now) }
-    ensures { result ≡ Update.joinedEntry n p l.now x.now i j }
+    ensures { result ≡ Update.joined_entry n p l.now x.now i j }
 {
     if i == p {
         return x[j];
@@ -135,7 +135,7 @@ fn joined_entry(l: &[f64], n: usize, p: usize, x: &[f64], i: usize, j: usize) ->
 fn joined_column(old: &[f64], n: usize, p: usize, x: &[f64], j: usize, l: &mut [f64])
     requires { (n * n ≤ length old.now) × (n < originals) × (p ≤ n) × (j ≤ n) × (n < length x.now) × ((n + 1) * (n + 1) ≤ length l.old) }
     ensures { l.new ≡
-        putColumn (n + 1) (n + 1) j (λ i. Update.joinedEntry n p old.now x.now i j) l.old }
+        put_column (n + 1) (n + 1) j (λ i. Update.joined_entry n p old.now x.now i j) l.old }
 {
     for i in 0..n + 1 {
         let v = joined_entry(old, n, p, x, i, j);
@@ -171,7 +171,7 @@ pub fn insert_column(l: &mut [f64], n: usize, p: usize, q: &[f64], room: &mut [f
         × (n < length q.now)
         × ((n + 1) * (n + 1) ≤ length l.old)
         × (n * n ≤ length room.old) }
-    ensures { l.new ≡ Update.insertColumn n p q.now l.old }
+    ensures { l.new ≡ Update.insert_column n p q.now l.old }
 {
     let mut x = [0.0; sizes::ORIGINALS];
     let k = n + 1;

@@ -4,16 +4,16 @@ use Rattle.folds.specs.Fold.{fold, some, pick}
 use Rattle.folds.specs.Marks.{contains}
 use Rattle.variable_set.specs.Joining.{joining, afresh}
 
-abbrev pub heldFive : List ℕ
-heldFive = 0 ∷ 1 ∷ 2 ∷ 3 ∷ 4 ∷ []
+abbrev pub held_five : List ℕ
+held_five = 0 ∷ 1 ∷ 2 ∷ 3 ∷ 4 ∷ []
 
-abbrev pub listedSix : List ℕ
-listedSix = 0 ∷ 1 ∷ 2 ∷ 3 ∷ 4 ∷ 5 ∷ []
+abbrev pub listed_six : List ℕ
+listed_six = 0 ∷ 1 ∷ 2 ∷ 3 ∷ 4 ∷ 5 ∷ []
 
-abbrev pub listedFive : List ℕ
-listedFive = 0 ∷ 1 ∷ 2 ∷ 3 ∷ 7 ∷ []
+abbrev pub listed_five : List ℕ
+listed_five = 0 ∷ 1 ∷ 2 ∷ 3 ∷ 7 ∷ []
 
 -- document 01's P8: six listed, one joining: update; five listed: afresh
-pub P8 : (afresh (joining heldFive listedSix) (length listedSix) ≡ false) × (afresh (joining heldFive listedFive) (length listedFive) ≡ true)
+pub P8 : (afresh (joining held_five listed_six) (length listed_six) ≡ false) × (afresh (joining held_five listed_five) (length listed_five) ≡ true)
 unfolding afresh joining contains fold some pick
 P8 = (refl, refl)

@@ -5,8 +5,8 @@ use Rattle.folds.specs.Marks.{marked}
 use Rattle.matrix.specs.Matrix.{index}
 
 -- how many of the listed are not marked
-unfoldable pub countIfNew : (held : List Bool) (i m : ℕ) → ℕ
-countIfNew held i m = pick (marked held i) m (m + 1)
+unfoldable pub count_if_new : (held : List Bool) (i m : ℕ) → ℕ
+count_if_new held i m = pick (marked held i) m (m + 1)
 
 unfoldable pub joining : (held : List Bool) (indices : List ℕ) → ℕ
-joining held indices = fold (length indices) (λ t. countIfNew held (index indices t)) 0
+joining held indices = fold (length indices) (λ t. count_if_new held (index indices t)) 0

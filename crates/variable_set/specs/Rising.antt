@@ -5,4 +5,4 @@ use Rattle.folds.specs.Marks.{contains}
 
 -- a list of variables below o, in rising order: those that it contains
 pub record Rising (o : ℕ) (list : List ℕ) : Type 0 where
-  pub is-chosen : chosen o (contains list) ≡ list
+  pub is_chosen : chosen o (contains list) ≡ list

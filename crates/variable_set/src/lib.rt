@@ -45,7 +45,7 @@ pub fn place(s: [bool; sizes::ORIGINALS], i: usize) -> usize
 
 fn count_if_new(held: [bool; sizes::ORIGINALS], i: usize, m: usize) -> usize
     requires { (i < Sizes.originals) × (m < Sizes.originals) }
-    ensures value { result ≡ Marked.countIfNew held i m }
+    ensures value { result ≡ Marked.count_if_new held i m }
     ensures upper_bound { result ≤ m + 1 }
 {
     if held[i] {

@@ -5,14 +5,14 @@ use Rattle.std.specs.Float.Ieee.{nan, eq}
 use Rattle.std.specs.Float.{binary64}
 use Rattle.std.specs.Float.Ieee.Fits.{div-fits}
 use Rattle.folds.specs.Fold.{over}
-use Rattle.folds.specs.Tab.{length-tab, getD-tab, tab-same, tab-all, over-all, over-in, take-replicate, taken-over}
+use Rattle.folds.specs.Tab.{length-tab, get_d_tab, tab-same, tab-all, over-all, over_in, take-replicate, taken-over}
 use Rattle.arith.specs.Float.{fadd, fsub, fmul, fdiv, f0, at}
 use Rattle.arith.specs.Scalar.{is_finite}
-use Rattle.arith.specs.Neutral.{Held, zero_is, plus, plus-held, plus-add, add-zero}
+use Rattle.arith.specs.Neutral.{Held, zero-is, plus, plus-held, plus-add, add-zero}
 use Rattle.arith.specs.Quotients.{quotient}
-use Rattle.reductions.specs.Reductions.{amax, allFinite}
-use Rattle.reductions.specs.Laws.{finite-at, finite-all, amax-largest}
-use Rattle.vector.specs.Vector.{scaled, divided, add, sub, mul, div, addScaled, subScaled, addScalar, copy, filled}
+use Rattle.reductions.specs.Reductions.{amax, all_finite}
+use Rattle.reductions.specs.Laws.{finite-at, finite-all, amax_largest}
+use Rattle.vector.specs.Vector.{scaled, divided, add, sub, mul, div, add_scaled, sub_scaled, add_scalar, copy, filled}
 use Rattle.vector.specs.Vector.{select}
 
 -- ---- lengths
@@ -41,17 +41,17 @@ module _ (n : ℕ) where
   unfolding div
   length-div a b = length-tab n _
 
-  pub length-addScaled : (y x : List Float) (s : Float) → length (addScaled n y x s) ≡ n
-  unfolding addScaled
-  length-addScaled y x s = length-tab n _
+  pub length-add_scaled : (y x : List Float) (s : Float) → length (add_scaled n y x s) ≡ n
+  unfolding add_scaled
+  length-add_scaled y x s = length-tab n _
 
-  pub length-subScaled : (y x : List Float) (s : Float) → length (subScaled n y x s) ≡ n
-  unfolding subScaled
-  length-subScaled y x s = length-tab n _
+  pub length-sub_scaled : (y x : List Float) (s : Float) → length (sub_scaled n y x s) ≡ n
+  unfolding sub_scaled
+  length-sub_scaled y x s = length-tab n _
 
-  pub length-addScalar : (a : List Float) (s : Float) → length (addScalar n a s) ≡ n
-  unfolding addScalar
-  length-addScalar a s = length-tab n _
+  pub length-add_scalar : (a : List Float) (s : Float) → length (add_scalar n a s) ≡ n
+  unfolding add_scalar
+  length-add_scalar a s = length-tab n _
 
   pub length-copy : (a : List Float) → length (copy n a) ≡ n
   unfolding copy
@@ -67,53 +67,53 @@ module _ (n : ℕ) where
 
 -- ---- elements
 module _ (n k : ℕ) (h : k < n) where
-  pub scaled_at : (a : List Float) (s : Float) → at (scaled n a s) k ≡ fmul (at a k) s
+  pub scaled-at : (a : List Float) (s : Float) → at (scaled n a s) k ≡ fmul (at a k) s
   unfolding scaled
-  scaled_at a s = getD-tab nan n k _ h
+  scaled-at a s = get_d_tab nan n k _ h
 
   pub divided-at : (a : List Float) (s : Float) → at (divided n a s) k ≡ fdiv (at a k) s
   unfolding divided
-  divided-at a s = getD-tab nan n k _ h
+  divided-at a s = get_d_tab nan n k _ h
 
-  pub add_at : (a b : List Float) → at (add n a b) k ≡ fadd (at a k) (at b k)
+  pub add-at : (a b : List Float) → at (add n a b) k ≡ fadd (at a k) (at b k)
   unfolding add
-  add_at a b = getD-tab nan n k _ h
+  add-at a b = get_d_tab nan n k _ h
 
-  pub sub_at : (a b : List Float) → at (sub n a b) k ≡ fsub (at a k) (at b k)
+  pub sub-at : (a b : List Float) → at (sub n a b) k ≡ fsub (at a k) (at b k)
   unfolding sub
-  sub_at a b = getD-tab nan n k _ h
+  sub-at a b = get_d_tab nan n k _ h
 
-  pub mul_at : (a b : List Float) → at (mul n a b) k ≡ fmul (at a k) (at b k)
+  pub mul-at : (a b : List Float) → at (mul n a b) k ≡ fmul (at a k) (at b k)
   unfolding mul
-  mul_at a b = getD-tab nan n k _ h
+  mul-at a b = get_d_tab nan n k _ h
 
   pub div-at : (a b : List Float) → at (div n a b) k ≡ fdiv (at a k) (at b k)
   unfolding div
-  div-at a b = getD-tab nan n k _ h
+  div-at a b = get_d_tab nan n k _ h
 
-  pub addScaled-at : (y x : List Float) (s : Float) → at (addScaled n y x s) k ≡ fadd (at y k) (fmul (at x k) s)
-  unfolding addScaled
-  addScaled-at y x s = getD-tab nan n k _ h
+  pub add_scaled-at : (y x : List Float) (s : Float) → at (add_scaled n y x s) k ≡ fadd (at y k) (fmul (at x k) s)
+  unfolding add_scaled
+  add_scaled-at y x s = get_d_tab nan n k _ h
 
-  pub subScaled-at : (y x : List Float) (s : Float) → at (subScaled n y x s) k ≡ fsub (at y k) (fmul (at x k) s)
-  unfolding subScaled
-  subScaled-at y x s = getD-tab nan n k _ h
+  pub sub_scaled-at : (y x : List Float) (s : Float) → at (sub_scaled n y x s) k ≡ fsub (at y k) (fmul (at x k) s)
+  unfolding sub_scaled
+  sub_scaled-at y x s = get_d_tab nan n k _ h
 
-  pub addScalar-at : (a : List Float) (s : Float) → at (addScalar n a s) k ≡ fadd (at a k) s
-  unfolding addScalar
-  addScalar-at a s = getD-tab nan n k _ h
+  pub add_scalar-at : (a : List Float) (s : Float) → at (add_scalar n a s) k ≡ fadd (at a k) s
+  unfolding add_scalar
+  add_scalar-at a s = get_d_tab nan n k _ h
 
-  pub copy_at : (a : List Float) → at (copy n a) k ≡ at a k
+  pub copy-at : (a : List Float) → at (copy n a) k ≡ at a k
   unfolding copy
-  copy_at a = getD-tab nan n k _ h
+  copy-at a = get_d_tab nan n k _ h
 
-  pub filled_at : (v : Float) → at (filled n v) k ≡ v
+  pub filled-at : (v : Float) → at (filled n v) k ≡ v
   unfolding filled
-  filled_at v = getD-tab nan n k _ h
+  filled-at v = get_d_tab nan n k _ h
 
   pub select-at : (a : List Float) (l : List ℕ) → at (select n a l) k ≡ at a (get_or l k 0)
   unfolding select
-  select-at a l = getD-tab nan n k _ h
+  select-at a l = get_d_tab nan n k _ h
 
 -- ---- copies and lists of one value
 pub copy-all : (n : ℕ) (a : List Float) → length a ≡ n → copy n a ≡ a
@@ -134,8 +134,8 @@ pub take-filled : (k n : ℕ) (v : Float) → k ≤ n → take k (replicate n v)
 unfolding filled
 take-filled k n v h = take-replicate k n v h
 
-pub take-zeros : (k n : ℕ) → k ≤ n → take k (replicate n f0) ≡ filled k f0
-take-zeros k n h = take-filled k n f0 h
+pub take_zeros : (k n : ℕ) → k ≤ n → take k (replicate n f0) ≡ filled k f0
+take_zeros k n h = take-filled k n f0 h
 
 -- ---- only the first n elements count
 abbrev pub Same : (n : ℕ) (a b : List Float) → Type 0
@@ -144,17 +144,17 @@ Same n a b = (k : ℕ) → k < n → at a k ≡ at b k
 pub same-take : (n : ℕ) (a : List Float) → Same n (take n a) a
 same-take n a k h = get_or-take n a k nan h
 
-pub same_over : (n : ℕ) (l o : List Float) → n ≤ length l → Same n (over l o) l
-same_over n l o p k h = over-in nan l o k (omega arith)
+pub same-over : (n : ℕ) (l o : List Float) → n ≤ length l → Same n (over l o) l
+same-over n l o p k h = over_in nan l o k (omega arith)
 
-pub same_copy : (n : ℕ) (a : List Float) → Same n (copy n a) a
-same_copy n a k h = copy_at n k h a
+pub same-copy : (n : ℕ) (a : List Float) → Same n (copy n a) a
+same-copy n a k h = copy-at n k h a
 
 -- what was written, less x in its place
-pub taken-less : {r s : List Float} (n : ℕ) (l o x : List Float) → length l ≡ n → r ≡ over l o → s ≡ over (sub n r x) r → take n s ≡ sub n l x
+pub taken_less : {r s : List Float} (n : ℕ) (l o x : List Float) → length l ≡ n → r ≡ over l o → s ≡ over (sub n r x) r → take n s ≡ sub n l x
 unfolding sub
-taken-less {r} n l o x h e g =
-    taken-over n r (length-sub n r x) g ∙ tab-same n _ _ (λ i q. rw (e, same_over n l o (omega arith) i q))
+taken_less {r} n l o x h e g =
+    taken-over n r (length-sub n r x) g ∙ tab-same n _ _ (λ i q. rw (e, same-over n l o (omega arith) i q))
 
 module _ (n : ℕ) (a b : List Float) (e : Same n a b) where
   pub copy-same : copy n a ≡ copy n b
@@ -166,17 +166,17 @@ module _ (n : ℕ) (a b c d : List Float) (e : Same n a c) (f : Same n b d) wher
   unfolding mul
   mul-same = tab-same n _ _ (λ k l. rw (e k l, f k l))
 
-  pub div_same : div n a b ≡ div n c d
+  pub div-same : div n a b ≡ div n c d
   unfolding div
-  div_same = tab-same n _ _ (λ k l. rw (e k l, f k l))
+  div-same = tab-same n _ _ (λ k l. rw (e k l, f k l))
 
 -- ---- quotients
 -- a finite list over its largest absolute value, if that is not 0, is finite
-pub quotients-finite : (n : ℕ) (a : List Float) → allFinite n a ≡ true → eq (amax n a) f0 ≡ false → allFinite n (divided n a (amax n a)) ≡ true
-quotients-finite n a h z =
+pub quotients_finite : (n : ℕ) (a : List Float) → all_finite n a ≡ true → eq (amax n a) f0 ≡ false → all_finite n (divided n a (amax n a)) ≡ true
+quotients_finite n a h z =
     let l = amax n a in
     let f : (k : ℕ) → k < n → is_finite (at a k) ≡ true = λ k i. finite-at n k a h i in
-    let u = amax-largest n a f in
+    let u = amax_largest n a f in
     finite-all n (divided n a l) (λ k i. rw (divided-at n k i a l) (quotient (at a k) l (f k i) u.0 z (u.1 k i)))
 
 -- ---- adding 0 to finite values of f64
@@ -184,19 +184,19 @@ abbrev pub Holding : (n : ℕ) (a : List Float) → Type 0
 Holding n a = (k : ℕ) → k < n → Held (at a k)
 
 module _ (n : ℕ) (a : List Float) (h : Holding n a) where
-  plus-at : (k : ℕ) → k < n → at (addScalar n a f0) k ≡ plus (at a k)
-  plus-at k l = addScalar-at n k l a f0 ∙ add-zero (at a k) (h k l)
+  plus-at : (k : ℕ) → k < n → at (add_scalar n a f0) k ≡ plus (at a k)
+  plus-at k l = add_scalar-at n k l a f0 ∙ add-zero (at a k) (h k l)
 
-  pub zero-holding : Holding n (addScalar n a f0)
-  zero-holding k l = rw (plus-at k l) (plus-held (at a k) (h k l))
+  pub zero_holding : Holding n (add_scalar n a f0)
+  zero_holding k l = rw (plus-at k l) (plus-held (at a k) (h k l))
 
   -- a second time changes nothing
-  pub zero-twice : addScalar n (addScalar n a f0) f0 ≡ addScalar n a f0
-  zero-twice =
-      ext_get_or nan (addScalar n (addScalar n a f0) f0) (addScalar n a f0) (length-addScalar n (addScalar n a f0) f0 ∙ sym (length-addScalar n a f0))
-      (λ k i. let l : k < n = rw (length-addScalar n (addScalar n a f0) f0) at i in
-      addScalar-at n k l (addScalar n a f0) f0 ∙ rw (plus-at k l) (plus-add (at a k) f0 (h k l) (false, zero_is)))
+  pub zero_twice : add_scalar n (add_scalar n a f0) f0 ≡ add_scalar n a f0
+  zero_twice =
+      ext_get_or nan (add_scalar n (add_scalar n a f0) f0) (add_scalar n a f0) (length-add_scalar n (add_scalar n a f0) f0 ∙ sym (length-add_scalar n a f0))
+      (λ k i. let l : k < n = rw (length-add_scalar n (add_scalar n a f0) f0) at i in
+      add_scalar-at n k l (add_scalar n a f0) f0 ∙ rw (plus-at k l) (plus-add (at a k) f0 (h k l) (false, zero-is)))
 
 -- quotients are values of f64
-pub quotients-holding : (n : ℕ) (a : List Float) (s : Float) → allFinite n (divided n a s) ≡ true → Holding n (divided n a s)
-quotients-holding n a s h k l = (finite-at n k (divided n a s) h l, rw (divided-at n k l a s) (div-fits binary64 (at a k) s))
+pub quotients_holding : (n : ℕ) (a : List Float) (s : Float) → all_finite n (divided n a s) ≡ true → Holding n (divided n a s)
+quotients_holding n a s h k l = (finite-at n k (divided n a s) h l, rw (divided-at n k l a s) (div-fits binary64 (at a k) s))

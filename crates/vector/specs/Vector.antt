@@ -23,15 +23,15 @@ unfoldable pub div : (n : ℕ) (a b : List Float) → List Float
 div n a b = tab n (λ k. fdiv (at a k) (at b k))
 
 -- y + x s and y - x s
-unfoldable pub addScaled : (n : ℕ) (y x : List Float) (s : Float) → List Float
-addScaled n y x s = tab n (λ k. fadd (at y k) (fmul (at x k) s))
+unfoldable pub add_scaled : (n : ℕ) (y x : List Float) (s : Float) → List Float
+add_scaled n y x s = tab n (λ k. fadd (at y k) (fmul (at x k) s))
 
-unfoldable pub subScaled : (n : ℕ) (y x : List Float) (s : Float) → List Float
-subScaled n y x s = tab n (λ k. fsub (at y k) (fmul (at x k) s))
+unfoldable pub sub_scaled : (n : ℕ) (y x : List Float) (s : Float) → List Float
+sub_scaled n y x s = tab n (λ k. fsub (at y k) (fmul (at x k) s))
 
 -- `add_scalar`
-unfoldable pub addScalar : (n : ℕ) (a : List Float) (s : Float) → List Float
-addScalar n a s = tab n (λ k. fadd (at a k) s)
+unfoldable pub add_scalar : (n : ℕ) (a : List Float) (s : Float) → List Float
+add_scalar n a s = tab n (λ k. fadd (at a k) s)
 
 unfoldable pub copy : (n : ℕ) (a : List Float) → List Float
 copy n a = tab n (λ k. at a k)

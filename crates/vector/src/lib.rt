@@ -1,7 +1,7 @@
 // Vectors: a slice, of which the first n elements count.
 ghost use Rattle.std.specs.Prelude.{◌≡◌, ◌+◌, ◌≤◌, ◌<◌, length};
 ghost use Rattle.folds.specs.Fold.{over};
-ghost use Rattle.folds.specs.Chosen.{held, pushIf};
+ghost use Rattle.folds.specs.Chosen.{held, push_if};
 ghost use Rattle.vector.specs.Vector as Vector;
 ghost use Rattle.vector.specs.Vector.{Below};
 
@@ -36,7 +36,7 @@ pub fn sub_from(y: &mut [f64], n: usize, x: &[f64])
 
 pub fn add_scaled(y: &mut [f64], n: usize, x: &[f64], by: f64)
     requires { (n ≤ length y.old) × (n ≤ length x.now) }
-    ensures { y.new ≡ over (Vector.addScaled n y.old x.now by) y.old }
+    ensures { y.new ≡ over (Vector.add_scaled n y.old x.now by) y.old }
 {
     for k in 0..n {
         y[k] = y[k] + x[k] * by;
@@ -45,7 +45,7 @@ pub fn add_scaled(y: &mut [f64], n: usize, x: &[f64], by: f64)
 
 pub fn sub_scaled(y: &mut [f64], n: usize, x: &[f64], by: f64)
     requires { (n ≤ length y.old) × (n ≤ length x.now) }
-    ensures { y.new ≡ over (Vector.subScaled n y.old x.now by) y.old }
+    ensures { y.new ≡ over (Vector.sub_scaled n y.old x.now by) y.old }
 {
     for k in 0..n {
         y[k] = y[k] - x[k] * by;
@@ -109,7 +109,7 @@ pub fn div(a: &[f64], b: &[f64], n: usize, y: &mut [f64])
 
 pub fn add_scalar(a: &[f64], n: usize, v: f64, y: &mut [f64])
     requires { (n ≤ length a.now) × (n ≤ length y.old) }
-    ensures { y.new ≡ over (Vector.addScalar n a.now v) y.old }
+    ensures { y.new ≡ over (Vector.add_scalar n a.now v) y.old }
 {
     for k in 0..n {
         y[k] = a[k] + v;
@@ -147,7 +147,7 @@ pub fn select(a: &[f64], n: usize, list: &[usize], k: usize, y: &mut [f64])
 // k at place m of list if on, and the next free place.
 pub fn push_if(on: bool, k: usize, m: usize, list: &mut [usize]) -> usize
     requires { m < length list.old }
-    ensures list_after { held result list.new ≡ pushIf on k (held m list.old) }
+    ensures list_after { held result list.new ≡ push_if on k (held m list.old) }
     ensures upper_bound { result ≤ m + 1 }
 {
     if on {

@@ -30,16 +30,16 @@ handed [] ks = tt
 handed (s ∷ ss) ks =
     (record { fit = λ κs x f. Unit {0}; has = λ κs x f vs. left ((s.row κs).exit ks.0) x f }, handed ss ks.1)
 
-handed-fit : {n : ℕ} (κs : Lfts n) (ss : List (Slot n)) (ks : Kepts ss) (a : Denots (types_at ss κs)) (ws : Fins κs ss ks a) →
+handed_fit : {n : ℕ} (κs : Lfts n) (ss : List (Slot n)) (ks : Kepts ss) (a : Denots (types_at ss κs)) (ws : Fins κs ss ks a) →
     fits_of κs ss ks (handed ss ks) a ws
-handed-fit κs [] ks a ws = tt
-handed-fit κs (s ∷ ss) ks a ws = (tt, handed-fit κs ss ks.1 a.1 ws.1)
+handed_fit κs [] ks a ws = tt
+handed_fit κs (s ∷ ss) ks a ws = (tt, handed_fit κs ss ks.1 a.1 ws.1)
 
-handed-go : {M : Type 1} {𝓤 : Ura M} (𝓛 : Logic 𝓤) {n : ℕ} (ss : List (Slot n)) (ks : Kepts ss) →
+handed_go : {M : Type 1} {𝓤 : Ura M} (𝓛 : Logic 𝓤) {n : ℕ} (ss : List (Slot n)) (ks : Kepts ss) →
     AllGo 𝓛 n ss ks (handed ss ks)
-handed-go 𝓛 [] ks = tt
-handed-go 𝓛 (s ∷ ss) ks =
-    (λ κs x f vs fits. 𝓛.laws.⇛_intro (sem 𝓛 (left ((s.row κs).exit ks.0) x f)), handed-go 𝓛 ss ks.1)
+handed_go 𝓛 [] ks = tt
+handed_go 𝓛 (s ∷ ss) ks =
+    (λ κs x f vs fits. 𝓛.laws.⇛_intro (sem 𝓛 (left ((s.row κs).exit ks.0) x f)), handed_go 𝓛 ss ks.1)
 
 module _ {M : Type 1} {𝓤 : Ura M} (𝓛 : Logic 𝓤) (E : Ended) (c : Clauses 𝓤 E) where
   open 𝓛 use {H}
@@ -52,7 +52,7 @@ module _ {M : Type 1} {𝓤 : Ura M} (𝓛 : Logic 𝓤) (E : Ended) (c : Clause
 
   pub ends : (y : Walked.Ghost) (v : Val) (r : Res E.signature y.0.0) (ws : Lasts E y.0.0 y.0.3) →
       ent 𝓤 (Ending 𝓛 E hands c y v r ws) (Walked.post y v)
-  ends y v r ws = ends_at 𝓛 E hands c y v r ws (handed-fit y.0.0 E.signature.params E.kept y.0.3 ws)
+  ends y v r ws = ends_at 𝓛 E hands c y v r ws (handed_fit y.0.0 E.signature.params E.kept y.0.3 ws)
 
   -- the function meets its contract, from a walk at the parameters' machine values
   module _ (sp : (κs : Lfts E.signature.lifetimes) → Spells (types_at E.signature.params κs)) where
@@ -68,7 +68,7 @@ module _ {M : Type 1} {𝓤 : Ura M} (𝓛 : Logic 𝓤) (E : Ended) (c : Clause
         (WpFn 𝓤 H 𝓣.C 𝓣.Λ code (Walked.args ((κs, qs, bounds, a, at κs a), g)) (Walked.post ((κs, qs, bounds, a, at κs a), g)))) →
         Meets 𝓛 E.signature (WpFn 𝓤 H 𝓣.C 𝓣.Λ code) (closing 𝓛 E c)
     met 𝓣 code tl walk =
-        walk_Meets 𝓛 E hands (handed-go 𝓛 E.signature.params E.kept) c (WpFn 𝓤 H 𝓣.C 𝓣.Λ code)
+        walk_Meets 𝓛 E hands (handed_go 𝓛 E.signature.params E.kept) c (WpFn 𝓤 H 𝓣.C 𝓣.Λ code)
         (WpFn-mono 𝓤 H 𝓛.laws 𝓣 code) (walked 𝓛 E hands c (WpFn 𝓤 H 𝓣.C 𝓣.Λ code) sp tl walk)
 
 module _ {M : Type 1} {𝓤 : Ura M} {𝓛 : Logic 𝓤} {K : Type 0} {Γ : List (Item 𝓤)} {G : Goal 𝓤 𝓛.H} where
@@ -81,13 +81,13 @@ module _ {M : Type 1} {𝓤 : Ura M} {𝓛 : Logic 𝓤} {K : Type 0} {Γ : List
   asks t x = step (λ s. join t $ states t x $ move t (1 ∷ 0 ∷ []) $ join t $ s)
 
   -- parameters that own facts alone are had for nothing
-  pub owned-all : K → (Rs : List RattleType) → Makess 𝓛 Rs (Ises Rs) → (a : Denots Rs) (vss : Valss Rs) → Are Rs (Ises Rs) a vss →
+  pub owned_all : K → (Rs : List RattleType) → Makess 𝓛 Rs (Ises Rs) → (a : Denots Rs) (vss : Valss Rs) → Are Rs (Ises Rs) a vss →
       Step K 𝓛 (‵ (owns Rs a vss) ∷ Γ) G Γ G
-  owned-all t Rs mk a vss g = use0 𝓛 (‵ (owns Rs a vss)) (owns_make 𝓛 Rs (Ises Rs) mk a vss g)
+  owned_all t Rs mk a vss g = use0 𝓛 (‵ (owns Rs a vss)) (owns_make 𝓛 Rs (Ises Rs) mk a vss g)
 
-  pub asks-plain : K → (Rs : List RattleType) → Makess 𝓛 Rs (Ises Rs) → (a : Denots Rs) (vss : Valss Rs) → Are Rs (Ises Rs) a vss →
+  pub asks_plain : K → (Rs : List RattleType) → Makess 𝓛 Rs (Ises Rs) → (a : Denots Rs) (vss : Valss Rs) → Are Rs (Ises Rs) a vss →
       {φ : Type 0} → φ → Step K 𝓛 (((‵ ftrue ⊛ ‵ (owns Rs a vss)) ⊛ raw (fact 𝓤 φ)) ∷ Γ) G Γ G
-  asks-plain t Rs mk a vss g x = step (λ s. owned-all t Rs mk a vss g $ nothing t $ asks t x $ s)
+  asks_plain t Rs mk a vss g x = step (λ s. owned_all t Rs mk a vss g $ nothing t $ asks t x $ s)
 
   -- what it leaves: the result, the tokens, what is said of the last values, and what is ensured of both
   pub answers : K → Soaks G → (E : Ended) (c : Clauses 𝓤 E) (y : (triple_of 𝓛 E.signature (closing 𝓛 E c)).Ghost) (v : Val) →
@@ -108,9 +108,9 @@ abbrev unsaid : ℕ → Fml
 unsaid zero = ftrue
 unsaid (suc n) = fsep ftrue (unsaid n)
 
-unsaid-pure : (n : ℕ) → Pure (unsaid n)
-unsaid-pure zero = tt
-unsaid-pure (suc n) = (tt, unsaid-pure n)
+unsaid_pure : (n : ℕ) → Pure (unsaid n)
+unsaid_pure zero = tt
+unsaid_pure (suc n) = (tt, unsaid_pure n)
 
 unsaid-holds : (n : ℕ) → shadow (unsaid n)
 unsaid-holds zero = tt
@@ -118,4 +118,4 @@ unsaid-holds (suc n) = (tt, unsaid-holds n)
 
 pub leaves : {M : Type 1} {𝓤 : Ura M} {𝓛 : Logic 𝓤} {K : Type 0} {G : Goal 𝓤 𝓛.H} → K → (n : ℕ) {P : Fml}
     {i j : Item 𝓤} → Step K 𝓛 ((i ⊛ (‵ (unsaid n) ⊛ ‵ P)) ∷ j ∷ []) G (‵ P ∷ j ∷ i ∷ []) G
-leaves t n = step (λ s. pure_i t (unsaid n) (unsaid-pure n) (unsaid-holds n) $ join t $ move t (2 ∷ 0 ∷ []) $ join t $ s)
+leaves t n = step (λ s. pure_i t (unsaid n) (unsaid_pure n) (unsaid-holds n) $ join t $ move t (2 ∷ 0 ∷ []) $ join t $ s)

@@ -32,7 +32,7 @@ fn number_of(w: Word, which: WordNumber) -> u64
 fn each_word(b: Block, which: WordNumber, y: &mut [f64])
     requires sound { Sound b }
     requires y_len { length y.old ≡ b.words }
-    ensures { y.new ≡ Words.eachWord (Numbers.number_of which) (block_of b) }
+    ensures { y.new ≡ Words.each_word (Numbers.number_of which) (block_of b) }
 {
     let n = b.words;
     for i in 0..n {

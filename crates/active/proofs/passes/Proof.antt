@@ -2,29 +2,29 @@ use Rattle.folds.specs.Kit.{◌≡◌, ◌+◌, ◌-◌, ◌<◌, ◌≤◌, ref
 use Rattle.sizes.specs.Sizes as Sizes
 use Rattle.iterate.specs.Problem.{problem}
 use Rattle.iterate.specs.Iterate.{Consistent}
-use Rattle.factoring.specs.Kept.{keptOf, Good}
-use Rattle.factoring.specs.Laws.{good_new}
+use Rattle.factoring.specs.Kept.{kept_of, Good}
+use Rattle.factoring.specs.Laws.{good-new}
 use Rattle.pass.specs.State.{state}
 use Rattle.minimum.specs.Counted.{budget}
 use Rattle.active.specs.Active.{passes}
-use Rattle.active.proofs.Left.{Left, all_left, all-spent, again, ended, Same, same-room}
+use Rattle.active.proofs.Left.{Left, all-left, all-spent, again, ended, Same, same-room}
 use Rattle.active.proofs.passes.Statement.{statement}
 use Rattle.active.proofs.passes.Tie as tie
 
 abbrev invariant-loop : tie.invariant-loop
 invariant-loop segments fixed q c e b counts magnitudes room₀ q-free₀ e-free₀ gram₀ l₀ at₀ factoring₀ made₀ made-end
-    room q-free e-free gram l at factoring made =
+    room q_free_holds e_free_holds gram l at factoring made =
     let p = problem counts.originals counts.n counts.m q c e b in
     (made ≤ made-end)
-    × Same room q-free e-free gram l room₀ q-free₀ e-free₀ gram₀ l₀
+    × Same room q_free_holds e_free_holds gram l room₀ q-free₀ e-free₀ gram₀ l₀
     × Consistent counts.n segments at
     × Good counts.originals factoring l
-    × (Left p segments fixed magnitudes.q magnitudes.linear made (state at (keptOf factoring) l) ≡
+    × (Left p segments fixed magnitudes.q magnitudes.linear made (state at (kept_of factoring) l) ≡
     passes p segments fixed magnitudes.q magnitudes.linear at₀ l₀)
 
 abbrev decreases-loop : tie.decreases-loop
 decreases-loop segments fixed q c e b counts magnitudes room₀ q-free₀ e-free₀ gram₀ l₀ at₀ factoring₀ made₀ made-end
-    room q-free e-free gram l at factoring made =
+    room q_free_holds e_free_holds gram l at factoring made =
     made-end - made
 
 -- the pass, its turn, and the function's start
@@ -49,15 +49,15 @@ lengths : (c : tie.After-slice-known10 invariant-loop decreases-loop) →
     let slices = (gave c).pass.new.1.1.1.1.1.1.1.1.1.1 in
     let lent = (start (turn (gave c)).before).args in
     Same slices.0 slices.1.0 slices.1.1.0 slices.1.1.1.0 slices.1.1.1.1.0
-    lent.room.now lent.q-free.now lent.e-free.now lent.gram.now lent.l.now
+    lent.room.now lent.q_free_holds.now lent.e_free_holds.now lent.gram.now lent.l.now
 lengths c =
     let i = (turn (gave c)).before.loop.inv.1 in
     record {
       of_room = c.before.before.before.before.before.before.before.before.before.room.given ∙ i.of_room;
-      of-q = c.before.before.before.before.before.before.before.q-free.given ∙ i.of-q;
-      of-e = c.before.before.before.before.before.e-free.given ∙ i.of-e;
-      of-gram = c.before.before.before.gram.given ∙ i.of-gram;
-      of-l = c.before.l.given ∙ i.of-l;
+      of_q = c.before.before.before.before.before.before.before.q_free_holds.given ∙ i.of_q;
+      of_e = c.before.before.before.before.before.e_free_holds.given ∙ i.of_e;
+      of_gram = c.before.before.before.gram.given ∙ i.of_gram;
+      of_l = c.before.l.given ∙ i.of_l;
     }
 
 -- where the budget is spent, and where the last pass was made
@@ -75,7 +75,7 @@ pass-requires : tie.Need-pass-requires invariant-loop decreases-loop
 pass-requires c κs =
     let l = c.before.before.before.before.before.before in
     let i = l.loop.invariant in
-    let s = (start l).requires in (s.0, s.1, i.2, s.3, same-room i.1 s.4, i.3, rw i.1.of-l s.5)
+    let s = (start l).requires in (s.0, s.1, i.2, s.3, same-room i.1 s.4, i.3, rw i.1.of_l s.5)
 
 loop-again : tie.Need-loop-preserved invariant-loop decreases-loop
 loop-again c =
@@ -103,27 +103,27 @@ passes-spec =
     (λ c κs. (start-1 c).requires.0.variables)  -- budget-requires
     (λ c. (
       omega arith,
-      record { of_room = refl; of-q = refl; of-e = refl; of-gram = refl; of-l = refl },
+      record { of_room = refl; of_q = refl; of_e = refl; of_gram = refl; of_l = refl },
       search kit,
-      good_new _ _ _ c.before.new.ensures,
-      all_left _ _ _ _ _ _ _ _ _ _ _ _ _ c.before.new.ensures,
+      good-new _ _ _ c.before.new.ensures,
+      all-left _ _ _ _ _ _ _ _ _ _ _ _ _ c.before.new.ensures,
     ))  -- loop-holds
     pass-requires
     (λ c κs. search kit)  -- goes-on-requires
     (λ c κs. (sym c.before.goes_on.ensures ∙ c.if1.false, omega (arith, counted-fits c.before.before.before)))  -- answered-requires
     (λ c. (lengths c.before.before.before.before).of_room)
-    (λ c. (lengths c.before.before.before.before).of-q)
-    (λ c. (lengths c.before.before.before.before).of-e)
-    (λ c. (lengths c.before.before.before.before).of-gram)
-    (λ c. (lengths c.before.before.before.before).of-l)
+    (λ c. (lengths c.before.before.before.before).of_q)
+    (λ c. (lengths c.before.before.before.before).of_e)
+    (λ c. (lengths c.before.before.before.before).of_gram)
+    (λ c. (lengths c.before.before.before.before).of_l)
     returns
     (λ c. omega (arith, counted-fits c.before.before.before.before.before))  -- add-made
     (λ c. omega (arith, (turn (gave c.before.before.before.before.before)).loop-test.taken))  -- loop-less
     loop-again
     (λ c κs. search kit)  -- refused-requires
     (λ c. c.before.before.loop.invariant.1.of_room)
-    (λ c. c.before.before.loop.invariant.1.of-q)
-    (λ c. c.before.before.loop.invariant.1.of-e)
-    (λ c. c.before.before.loop.invariant.1.of-gram)
-    (λ c. c.before.before.loop.invariant.1.of-l)
+    (λ c. c.before.before.loop.invariant.1.of_q)
+    (λ c. c.before.before.loop.invariant.1.of_e)
+    (λ c. c.before.before.loop.invariant.1.of_gram)
+    (λ c. c.before.before.loop.invariant.1.of_l)
     returns-2)

@@ -2,9 +2,9 @@ use Rattle.folds.specs.Kit.{◌≡◌, ◌<◌, ◌≤◌, sym, ◌∙◌, refl,
 use lib.ListN.{take}
 use lib.Seq.{length-take-le}
 use Rattle.sizes.specs.Sizes as Sizes
-use Rattle.segments.specs.Segments.{last, segmentsAt}
-use Rattle.iterate.specs.Laws.{passed-more, passed-optimal, passed-notConverged, length-mapped, board-is, board-consistent}
-use Rattle.release_at.specs.Laws.{release-enters}
+use Rattle.segments.specs.Segments.{last, segments_at}
+use Rattle.iterate.specs.Laws.{passed-more, passed-optimal, passed-not_converged, length_mapped, board_is, board_consistent}
+use Rattle.release_at.specs.Laws.{release_enters}
 use Rattle.advance.specs.Advance.{decided}
 use Rattle.advance.specs.Laws.{entered-placed}
 use Rattle.advance.proofs.decided.Statement.{statement}
@@ -19,7 +19,7 @@ multipliers-hold c =
     let e : length c.args.t10 ≡ Sizes.columns = search needs in omega (arith, c.requires.0.columns)
 
 states : (c : tie.Start) → length c.args.board.state ≡ Sizes.variables
-states c = let g = c.well-formed.1.0 in search (needs, length-mapped)
+states c = let g = c.well-formed.1.0 in search (needs, length_mapped)
 
 slice-aggregate-release : tie.Need-slice-aggregate-release
 slice-aggregate-release c = sym (length-take-le _ _ (multipliers-hold c.before.before.before.before.before))
@@ -32,12 +32,12 @@ release-requires c κs =
 -- the variable that enters, and the segment it goes into
 enters : (c : tie.After-known-told) → let s = start c.before.before.before in
     let v = c.before.outcome.given.0 in
-    (v.0 < s.args.counts.n) × (v.1.0 < last (segmentsAt s.args.segments v.0))
+    (v.0 < s.args.counts.n) × (v.1.0 < last (segments_at s.args.segments v.0))
 enters c =
     let s = start c.before.before.before in
     let a = s.args in
     let v = c.before.outcome.given in
-    release-enters a.counts.originals a.counts.n a.counts.m a.q.now a.c.now a.e.now a.segments a.fixed.now
+    release_enters a.counts.originals a.counts.n a.counts.m a.q.now a.c.now a.e.now a.segments a.fixed.now
     a.magnitudes.q a.magnitudes.linear (take a.counts.m a.t10) a.board s.pre.2 v.0.0 v.0.1.0
     (sym v.1 ∙ c.before.before.before.release.ensures)
 
@@ -58,7 +58,7 @@ returns c =
       passed-more _ _ c.ended.result e.0
           ∙ rw (i, ← k.before.before.before.release.ensures, k.before.outcome.given.1, c.before.before.entered.ensures),
       rw (i, c.before.before.entered.ensures)
-          (board-consistent s.args.counts.n s.args.segments s.args.iterate _ _ placed),
+          (board_consistent s.args.counts.n s.args.segments s.args.iterate _ _ placed),
     )
 
 returns-2 : tie.Need-returns-2
@@ -67,8 +67,8 @@ returns-2 c =
     let s = start c.before.before.before in
     let w = c.with-board2.ensures in (
       passed-optimal _ _ _ refl
-          ∙ rw (w, board-is, ← c.before.before.before.release.ensures, c.before.enum_told.given.1),
-      rw w (board-consistent s.args.counts.n s.args.segments s.args.iterate s.args.board _ s.pre.2),
+          ∙ rw (w, board_is, ← c.before.before.before.release.ensures, c.before.enum_told.given.1),
+      rw w (board_consistent s.args.counts.n s.args.segments s.args.iterate s.args.board _ s.pre.2),
     )
 
 returns-3 : tie.Need-returns-3
@@ -76,7 +76,7 @@ unfolding decided
 returns-3 c =
     let s = start c.before.before.before in
     let e = c.ended2.ensures in (
-      passed-notConverged _ _ c.ended2.result e.0
+      passed-not_converged _ _ c.ended2.result e.0
           ∙ rw (← c.before.before.before.release.ensures, c.before.enum-told2.given.1),
       rw e.1 s.pre.3,
     )

@@ -2,7 +2,7 @@ use borrow.Author.Tests.{leb-true, leb-false, not-true, not-false}
 use Rattle.folds.specs.Kit.{ℕ, refl, sym, ap, ◌∙◌, ◌+◌, ◌*◌, ◌≤◌, length, arith, needs}
 use mir.Syntax.{w64}
 use Rattle.ints.specs.Held.{param}
-use Rattle.answer.specs.File.{Answer, answer_of, bytes, code, field, fileSize}
+use Rattle.answer.specs.File.{Answer, answer_of, bytes, code, field, file_size}
 use Rattle.answer.specs.Pasted.{pasted, too_small, file-written}
 use Rattle.answer.proofs.write.Statement.{statement}
 use Rattle.answer.proofs.write.Tie as tie
@@ -16,11 +16,11 @@ module _ (e : tie.Else1) where
   abbrev s : tie.Start
   s = e.before.before.before
 
-  large : fileSize (length s.args.times.now) (length s.args.prices.now) ≤ length s.args.out.now
+  large : file_size (length s.args.times.now) (length s.args.prices.now) ≤ length s.args.out.now
   large = leb-true _ _ (sym e.before.has_room.ensures ∙ not-false _ e.if1.left)
 
   room : 22 + 4 * length s.args.times.now + 8 * length s.args.prices.now ≤ length s.args.out.now
-  unfolding fileSize
+  unfolding file_size
   room = large
 
   -- where the prices, the gap and the passes begin

@@ -1,6 +1,6 @@
 use Rattle.folds.specs.Kit.{pick}
 use Rattle.arith.specs.Scalar.{max}
-use Rattle.arith.proofs.Cases.{ne-nan}
+use Rattle.arith.proofs.Cases.{ne_nan}
 use Rattle.arith.proofs.max.Statement.{statement}
 use Rattle.arith.proofs.max.Tie as tie
 
@@ -9,6 +9,6 @@ unfolding max pick
 max-spec =
     tie.close
     (tie.spec
-    (λ c. rw (← ne-nan c.before.args.a, c.if1.true))  -- returns
-    (λ c. rw (← ne-nan c.before.before.args.a, c.before.if1.false, c.if2.true))  -- returns-2
-    (λ c. rw (← ne-nan c.before.before.args.a, c.before.if1.false, c.if2.false)))  -- returns-3
+    (λ c. rw (← ne_nan c.before.args.a, c.if1.true))  -- returns
+    (λ c. rw (← ne_nan c.before.before.args.a, c.before.if1.false, c.if2.true))  -- returns-2
+    (λ c. rw (← ne_nan c.before.before.args.a, c.before.if1.false, c.if2.false)))  -- returns-3

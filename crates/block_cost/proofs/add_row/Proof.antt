@@ -1,13 +1,13 @@
 use Rattle.std.proofs.Common.{le_refl}
-use Rattle.folds.specs.Kit.{◌≡◌, ◌∙◌, ◌+◌, ◌-◌, ◌*◌, ◌≤◌, ◌<◌, length, fold, fold-call, fold_end, kit, arith, cell-lt}
+use Rattle.folds.specs.Kit.{◌≡◌, ◌∙◌, ◌+◌, ◌-◌, ◌*◌, ◌≤◌, ◌<◌, length, fold, fold_call, fold_end, kit, arith, cell-lt}
 use Rattle.folds.specs.Cell.{area}
 use Rattle.arith.specs.Float.{fmul}
 use Rattle.nearest.specs.Value.{fromℤ}
 use Rattle.block.specs.Block.{item}
 use Rattle.format.specs.Structs.{list_of, pair_at}
-use Rattle.format.specs.Entries.{list_length}
+use Rattle.format.specs.Entries.{list-length}
 use Rattle.exact.specs.Entries.{pair-word}
-use Rattle.block_cost.specs.Cost.{plusAt, addRow}
+use Rattle.block_cost.specs.Cost.{plus_at, add_row}
 use Rattle.block_floats.specs.Entries.{word_of, coef-read, coef-of}
 use Rattle.block_cost.proofs.add_row.Statement.{statement}
 use Rattle.block_cost.proofs.add_row.Tie as tie
@@ -15,7 +15,7 @@ use Rattle.block_cost.proofs.add_row.Tie as tie
 abbrev invariant-loop : tie.invariant-loop
 invariant-loop n i w q₀ l count k₀ q k =
     (k ≤ l.count) × (length q ≡ length q₀)
-    × (q ≡ fold k (λ k q. plusAt q (i + (item (list_of l) k).word * n) (fmul w (fromℤ (item (list_of l) k).coef))) q₀)
+    × (q ≡ fold k (λ k q. plus_at q (i + (item (list_of l) k).word * n) (fmul w (fromℤ (item (list_of l) k).coef))) q₀)
 
 abbrev decreases-loop : tie.decreases-loop
 decreases-loop n i w q₀ l count k₀ q k = l.count - k
@@ -39,16 +39,16 @@ loop-again c =
     let F = a.requires.0 in (
       search kit,
       omega arith,
-      fold-call _ _ _ t.loop.invariant.2
+      fold_call _ _ _ t.loop.invariant.2
           (c.before.before.plus-at.ensures
           ∙ rw (word_of F h, coef-of F h a.requires.1.0.short c.before.before.before.whole.ensures)),
     )
 
 returns : tie.Need-returns invariant-loop decreases-loop
-unfolding addRow
+unfolding add_row
 returns c =
     let t = c.before.loop in
-    let n = list_length c.before.before.before.requires.0 in fold_end _ _ _ _ (omega arith) (omega arith) t.invariant.2
+    let n = list-length c.before.before.before.requires.0 in fold_end _ _ _ _ (omega arith) (omega arith) t.invariant.2
 
 pub add-row-spec : {M : Type 1} → statement M
 add-row-spec =

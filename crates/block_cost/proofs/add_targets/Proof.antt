@@ -1,13 +1,13 @@
-use Rattle.folds.specs.Kit.{◌≡◌, ◌∙◌, ◌-◌, ◌≤◌, length, fold, fold-call, fold_end, kit, arith}
+use Rattle.folds.specs.Kit.{◌≡◌, ◌∙◌, ◌-◌, ◌≤◌, length, fold, fold_call, fold_end, kit, arith}
 use Rattle.std.proofs.Common.{w64}
 use Rattle.ints.specs.Held.{Cell, cell, read}
 use Rattle.arith.specs.Float.{fmul}
 use Rattle.nearest.specs.Value.{fromℤ}
 use Rattle.block.specs.Block.{item}
 use Rattle.format.specs.Structs.{list_of}
-use Rattle.format.specs.Entries.{list_length}
+use Rattle.format.specs.Entries.{list-length}
 use Rattle.exact.specs.Entries.{pair-word}
-use Rattle.block_cost.specs.Cost.{plusAt, addTargets}
+use Rattle.block_cost.specs.Cost.{plus_at, add_targets}
 use Rattle.block_floats.specs.Entries.{word_of, coef-read, coef-of}
 use Rattle.block_cost.proofs.add_targets.Statement.{statement}
 use Rattle.block_cost.proofs.add_targets.Tie as tie
@@ -15,7 +15,7 @@ use Rattle.block_cost.proofs.add_targets.Tie as tie
 abbrev invariant-loop : tie.invariant-loop
 invariant-loop c₀ l count weight target w k₀ c k =
     (k ≤ l.count) × (length c ≡ length c₀)
-    × (c ≡ fold k (λ k c. plusAt c (item (list_of l) k).word (fmul w (fromℤ (item (list_of l) k).coef))) c₀)
+    × (c ≡ fold k (λ k c. plus_at c (item (list_of l) k).word (fmul w (fromℤ (item (list_of l) k).coef))) c₀)
 
 abbrev decreases-loop : tie.decreases-loop
 decreases-loop c₀ l count weight target w k₀ c k = l.count - k
@@ -36,17 +36,17 @@ loop-again c =
     let h = c.before.before.before.before.before.before.before.loop-test.true in (
       search kit,
       omega arith,
-      fold-call _ _ _ t.loop.invariant.2
+      fold_call _ _ _ t.loop.invariant.2
           (c.before.before.plus-at.ensures
           ∙ rw (word_of p.0 h, coef-of p.0 h p.1.list.short c.before.before.before.whole2.ensures)),
     )
 
 returns : tie.Need-returns invariant-loop decreases-loop
-unfolding addTargets
+unfolding add_targets
 returns c =
     let t = c.before.before in
     let a = c.before.before.before.before.before.before.before in
-    let n = list_length a.requires.0 in
+    let n = list-length a.requires.0 in
     rw (← t.before.before.nearest-u64-to-f64.ensures, ← (target-cell a).is, ← t.whole.ensures)
     (fold_end _ _ _ _ (omega arith) (omega arith) c.before.loop.invariant.2)
 

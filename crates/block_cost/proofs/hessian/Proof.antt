@@ -1,17 +1,17 @@
-use Rattle.folds.specs.Kit.{◌≡◌, sym, ap, ◌∙◌, ◌*◌, ◌-◌, ◌≤◌, length, fold, fold-call, fold_end, kit, arith}
+use Rattle.folds.specs.Kit.{◌≡◌, sym, ap, ◌∙◌, ◌*◌, ◌-◌, ◌≤◌, length, fold, fold_call, fold_end, kit, arith}
 use Rattle.folds.specs.Cell.{area}
 use Rattle.arith.specs.Float.{f0}
 use Rattle.vector.specs.Laws.{over-filled}
 use Rattle.block.specs.Block.{Tempo, tempo}
 use Rattle.format.specs.Structs.{block_of}
-use Rattle.format.specs.Entries.{words-length, tempos-length, tempo-is, tempo-in}
-use Rattle.block_cost.specs.Cost.{addProducts, hessian}
+use Rattle.format.specs.Entries.{words-length, tempos-length, tempo-is, tempo_in}
+use Rattle.block_cost.specs.Cost.{add_products, hessian}
 use Rattle.block_cost.proofs.hessian.Statement.{statement}
 use Rattle.block_cost.proofs.hessian.Tie as tie
 
 abbrev invariant-loop : tie.invariant-loop
 invariant-loop q₀ b n m j₀ q j =
-    (j ≤ b.tempos) × (length q ≡ length q₀) × (q ≡ fold j (λ j q. addProducts b.words (tempo (block_of b) j) q) q₀)
+    (j ≤ b.tempos) × (length q ≡ length q₀) × (q ≡ fold j (λ j q. add_products b.words (tempo (block_of b) j) q) q₀)
 
 abbrev decreases-loop : tie.decreases-loop
 decreases-loop q₀ b n m j₀ q j = b.tempos - j
@@ -21,7 +21,7 @@ add-products-requires c κs =
     let t = c.before.before.before in
     let p = t.before.before.before.before.before.before.requires in
     let h = c.before.before.loop-test.true in
-    (p.0.tempo-list _ h, (tempo-in p.0 p.1.0 h, (p.0.words, omega (arith, p.1.1))))
+    (p.0.tempo_list _ h, (tempo_in p.0 p.1.0 h, (p.0.words, omega (arith, p.1.1))))
 
 loop-again : tie.Need-loop-preserved invariant-loop decreases-loop
 loop-again c =
@@ -30,9 +30,9 @@ loop-again c =
     let h = c.before.before.before.before.before.loop-test.true in (
       search kit,
       omega arith,
-      fold-call _ _ _ t.loop.invariant.2
+      fold_call _ _ _ t.loop.invariant.2
           (c.before.before.add-products.ensures
-          ∙ ap (λ (w : Tempo). addProducts a.args.t1.words w t.loop.q) (sym (tempo-is a.requires.0 h))),
+          ∙ ap (λ (w : Tempo). add_products a.args.t1.words w t.loop.q) (sym (tempo-is a.requires.0 h))),
     )
 
 returns : tie.Need-returns invariant-loop decreases-loop

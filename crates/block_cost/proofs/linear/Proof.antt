@@ -1,18 +1,18 @@
 use Rattle.std.proofs.Common.{subst}
-use Rattle.folds.specs.Kit.{ℕ, ◌≡◌, sym, ap, ◌∙◌, ◌-◌, ◌≤◌, length, fold, fold-call, fold_end, kit, arith}
+use Rattle.folds.specs.Kit.{ℕ, ◌≡◌, sym, ap, ◌∙◌, ◌-◌, ◌≤◌, length, fold, fold_call, fold_end, kit, arith}
 use Rattle.arith.specs.Float.{f0}
 use Rattle.vector.specs.Laws.{over-filled}
 use Rattle.block.specs.Block.{Tempo, tempo}
 use Rattle.block.specs.Ranges.{RangedTempo}
-use Rattle.format.specs.Structs.{block_of, tempoOf, tempoAt}
-use Rattle.format.specs.Entries.{words-length, tempos-length, tempo-is, tempo-in}
-use Rattle.block_cost.specs.Cost.{addTargets, linear}
+use Rattle.format.specs.Structs.{block_of, tempo_of, tempo_at}
+use Rattle.format.specs.Entries.{words-length, tempos-length, tempo-is, tempo_in}
+use Rattle.block_cost.specs.Cost.{add_targets, linear}
 use Rattle.block_cost.proofs.linear.Statement.{statement}
 use Rattle.block_cost.proofs.linear.Tie as tie
 
 abbrev invariant-loop : tie.invariant-loop
 invariant-loop c₀ b n m j₀ c j =
-    (j ≤ b.tempos) × (length c ≡ length c₀) × (c ≡ fold j (λ j c. addTargets (tempo (block_of b) j) c) c₀)
+    (j ≤ b.tempos) × (length c ≡ length c₀) × (c ≡ fold j (λ j c. add_targets (tempo (block_of b) j) c) c₀)
 
 abbrev decreases-loop : tie.decreases-loop
 decreases-loop c₀ b n m j₀ c j = b.tempos - j
@@ -24,7 +24,7 @@ add-targets-requires c κs =
     let p = a.requires in
     let h = c.before.before.loop-test.true in
     let e : a.args.t1.words ≡ length t.loop.c = omega arith in
-    (p.0.tempo-list _ h, subst (λ (n : ℕ). RangedTempo n (tempoOf (tempoAt a.args.t1 t.loop.j))) e (tempo-in p.0 p.1.0 h))
+    (p.0.tempo_list _ h, subst (λ (n : ℕ). RangedTempo n (tempo_of (tempo_at a.args.t1 t.loop.j))) e (tempo_in p.0 p.1.0 h))
 
 loop-again : tie.Need-loop-preserved invariant-loop decreases-loop
 loop-again c =
@@ -33,8 +33,8 @@ loop-again c =
     let h = c.before.before.before.before.before.loop-test.true in (
       search kit,
       omega arith,
-      fold-call _ _ _ t.loop.invariant.2
-          (c.before.before.add-targets.ensures ∙ ap (λ (w : Tempo). addTargets w t.loop.c) (sym (tempo-is p.0 h))),
+      fold_call _ _ _ t.loop.invariant.2
+          (c.before.before.add-targets.ensures ∙ ap (λ (w : Tempo). add_targets w t.loop.c) (sym (tempo-is p.0 h))),
     )
 
 returns : tie.Need-returns invariant-loop decreases-loop

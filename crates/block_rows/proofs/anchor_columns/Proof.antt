@@ -1,10 +1,10 @@
-use Rattle.folds.specs.Kit.{◌≡◌, refl, ap, ◌*◌, ◌-◌, ◌≤◌, length, kit, arith, col-end}
+use Rattle.folds.specs.Kit.{◌≡◌, refl, ap, ◌*◌, ◌-◌, ◌≤◌, length, kit, arith, col_end}
 use lib.ListN.{take}
 use Rattle.block.specs.Block.{Anchor, anchor}
 use Rattle.format.specs.Structs.{block_of}
-use Rattle.format.specs.Entries.{words-length, anchors-length, anchor-is, anchor-in}
-use Rattle.block_rows.specs.Rows.{columns, anchorColumns}
-use Rattle.block_rows.specs.Entries.{columns-none, columns-turn, columns-end}
+use Rattle.format.specs.Entries.{words-length, anchors-length, anchor-is, anchor_in}
+use Rattle.block_rows.specs.Rows.{columns, anchor_columns}
+use Rattle.block_rows.specs.Entries.{columns-none, columns_turn, columns_end}
 use Rattle.block_rows.proofs.anchor_columns.Statement.{statement}
 use Rattle.block_rows.proofs.anchor_columns.Tie as tie
 
@@ -21,7 +21,7 @@ put-column-requires c κs =
     let a = t.before.before in
     let h = c.before.before.before.loop-test.true in
     let l : a.args.t1.words * a.args.t1.anchors ≤ length t.loop.e = omega (arith, a.requires.1.1, t.loop.invariant.1) in
-    (a.requires.0.anchor-list _ h, ((anchor-in a.requires.0 a.requires.1.0 h).list, col-end _ _ a.args.t1.anchors _ l h))
+    (a.requires.0.anchor_list _ h, ((anchor_in a.requires.0 a.requires.1.0 h).list, col_end _ _ a.args.t1.anchors _ l h))
 
 loop-again : tie.Need-loop-preserved invariant-loop decreases-loop
 loop-again c =
@@ -30,16 +30,16 @@ loop-again c =
     let e = anchor-is p.0 c.before.before.before.before.before.before.loop-test.true in (
       search kit,
       omega arith,
-      columns-turn _ _ _ _ t.loop.invariant.2 (ap (λ (w : Anchor). w.list) e) c.before.before.put-column.ensures,
+      columns_turn _ _ _ _ t.loop.invariant.2 (ap (λ (w : Anchor). w.list) e) c.before.before.put-column.ensures,
     )
 
 returns : tie.Need-returns invariant-loop decreases-loop
-unfolding anchorColumns
+unfolding anchor_columns
 returns c =
     let t = c.before in
     let p = t.before.before.requires in
     rw (words-length p.0, anchors-length p.0)
-    (columns-end _ _ _ _ _ (omega arith) (omega arith) (omega (arith, p.1.1, t.loop.invariant.1)) t.loop.invariant.2)
+    (columns_end _ _ _ _ _ (omega arith) (omega arith) (omega (arith, p.1.1, t.loop.invariant.1)) t.loop.invariant.2)
 
 pub anchor-columns-spec : {M : Type 1} → statement M
 anchor-columns-spec =

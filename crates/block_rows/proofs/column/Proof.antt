@@ -3,19 +3,19 @@ use native.Mathlib.Nat.{le_refl}
 use Rattle.folds.specs.Kit.{ℕ, ◌≡◌, refl, ◌-◌, ◌≤◌, ◌<◌, length, length-set, tab, kit, arith}
 use Rattle.nearest.specs.Value.{fromℤ}
 use Rattle.ints.specs.Sum.{Σ}
-use Rattle.block.specs.Gap.{coefAt}
+use Rattle.block.specs.Gap.{coef_at}
 use Rattle.block.specs.Ranges.{RangedList}
 use Rattle.format.specs.Structs.{list_of, pair_at}
-use Rattle.format.specs.Entries.{in_list, list_length}
+use Rattle.format.specs.Entries.{in_list, list-length}
 use Rattle.exact.specs.Entries.{pair-word}
 use Rattle.block_floats.specs.Entries.{word_of, coef-read, coef-of}
-use Rattle.block_rows.specs.Entries.{column-none, column-turn, column-end}
+use Rattle.block_rows.specs.Entries.{column-none, column_turn, column_end}
 use Rattle.block_rows.proofs.column.Statement.{statement}
 use Rattle.block_rows.proofs.column.Tie as tie
 
 abbrev invariant-loop : tie.invariant-loop
 invariant-loop y₀ l count k₀ y k =
-    (k ≤ l.count) × (length y ≡ length y₀) × (y ≡ tab (length y₀) (λ i. fromℤ (Σ k (coefAt i (list_of l)))))
+    (k ≤ l.count) × (length y ≡ length y₀) × (y ≡ tab (length y₀) (λ i. fromℤ (Σ k (coef_at i (list_of l)))))
 
 abbrev decreases-loop : tie.decreases-loop
 decreases-loop y₀ l count k₀ y k = l.count - k
@@ -49,15 +49,15 @@ loop-again c =
       search kit,
       simp length-set t.loop.invariant.1,
       rw (word_of p.0 h)
-          (column-turn (ranged t.before) t.loop.k (in_list p.0 h) (coef-of p.0 h p.1.short c.whole.ensures)
+          (column_turn (ranged t.before) t.loop.k (in_list p.0 h) (coef-of p.0 h p.1.short c.whole.ensures)
           t.loop.invariant.2),
     )
 
 returns : tie.Need-returns invariant-loop decreases-loop
 returns c =
     let t = c.before in
-    let n = list_length t.before.before.before.before.before.before.requires.0 in
-    column-end _ _ _ _ (omega arith) (omega arith) t.loop.invariant.2
+    let n = list-length t.before.before.before.before.before.before.requires.0 in
+    column_end _ _ _ _ (omega arith) (omega arith) t.loop.invariant.2
 
 pub column-spec : {M : Type 1} → statement M
 column-spec =

@@ -1,6 +1,6 @@
 use mathlib.Core.Path.{subst}
 use Rattle.folds.specs.Kit.{ℕ, sym, arith, needs}
-use Rattle.folds.specs.Part.{part, withPart}
+use Rattle.folds.specs.Part.{part, with_part}
 use Rattle.block.specs.Ranges.{RangedList}
 use Rattle.format.specs.Structs.{list_of}
 use Rattle.block_rows.specs.Rows.{column}
@@ -16,7 +16,7 @@ column-requires c κs =
     (a.requires.0, subst (λ (n : ℕ). RangedList n (list_of a.args.l)) (sym e) a.requires.1.0)
 
 returns : tie.Need-returns
-unfolding part withPart
+unfolding part with_part
 returns c =
     let a = c.before.before.before.before.before in
     let e = rows-part a.args.a.now a.args.n a.args.k a.requires.1.1 in

@@ -8,9 +8,9 @@ use Rattle.format.specs.Structs.{block_of}
 use Rattle.format.specs.Entries.{words-length, anchors-length, spans-length}
 use Rattle.block_cost.specs.Cost.{hessian}
 use Rattle.block_cost.specs.Laws.{length-hessian}
-use Rattle.block_rows.specs.Rows.{anchorColumns, spanColumns}
-use Rattle.block_rows.specs.Laws.{length-anchorColumns, length-spanColumns}
-use Rattle.block_solve.specs.Laws.{Front, front, front-room, front_long, front-is}
+use Rattle.block_rows.specs.Rows.{anchor_columns, span_columns}
+use Rattle.block_rows.specs.Laws.{length-anchor_columns, length-span_columns}
+use Rattle.block_solve.specs.Laws.{Front, front, front_room, front_long, front_is}
 use Rattle.block_solve.proofs.solve.Statement.{statement}
 use Rattle.block_solve.proofs.solve.Tie as tie
 
@@ -39,11 +39,11 @@ module _ (c : tie.After-a2) where
   q : Front (s.args.block.words * s.args.block.words) h.hessian.last.1.0 (hessian (block_of s.args.block))
   q = front h.hessian.ensures (length-hessian _ ∙ ap₂ ◌*◌ (words-length s.pre.0) (words-length s.pre.0))
 
-  e : Front (s.args.block.words * s.args.block.anchors) g.anchor-columns.last.1.0 (anchorColumns (block_of s.args.block))
-  e = front g.anchor-columns.ensures (length-anchorColumns _ ∙ ap₂ ◌*◌ (words-length s.pre.0) (anchors-length s.pre.0))
+  e : Front (s.args.block.words * s.args.block.anchors) g.anchor-columns.last.1.0 (anchor_columns (block_of s.args.block))
+  e = front g.anchor-columns.ensures (length-anchor_columns _ ∙ ap₂ ◌*◌ (words-length s.pre.0) (anchors-length s.pre.0))
 
-  a : Front (s.args.block.words * s.args.block.spans) c.before.span-columns.new.1.0 (spanColumns (block_of s.args.block))
-  a = front c.before.span-columns.ensures (length-spanColumns _ ∙ ap₂ ◌*◌ (words-length s.pre.0) (spans-length s.pre.0))
+  a : Front (s.args.block.words * s.args.block.spans) c.before.span-columns.new.1.0 (span_columns (block_of s.args.block))
+  a = front c.before.span-columns.ensures (length-span_columns _ ∙ ap₂ ◌*◌ (words-length s.pre.0) (spans-length s.pre.0))
 
 pub solve-spec : {M : Type 1} → statement M
 solve-spec =
@@ -63,14 +63,14 @@ solve-spec =
     (λ c. sym (length-take-le _ _ (a-room c.before.before.before.before.before.before.before.before.before)))  -- slice-aggregate-span-columns
     (λ c κs. let t = c.before.before.before.before.before.before.before.before.before in
     (t.requires.0, (t.requires.1, length-take-le _ _ (a-room t))))  -- span-columns-requires
-    (λ c. front-room (q c) _)  -- array-share-prefix-q
+    (λ c. front_room (q c) _)  -- array-share-prefix-q
     (λ c. front_long (q c.before) _)  -- slice-aggregate-solve-words
-    (λ c. front-room (e c.before) _)  -- array-share-prefix-e
+    (λ c. front_room (e c.before) _)  -- array-share-prefix-e
     (λ c. front_long (e c.before.before) _)  -- slice-aggregate-solve-words-2
-    (λ c. front-room (a c.before.before) _)  -- array-share-prefix-a
+    (λ c. front_room (a c.before.before) _)  -- array-share-prefix-a
     (λ c. front_long (a c.before.before.before) _)  -- slice-aggregate-solve-words-3
     (λ c κs.
     let u = c.before.before.before in
     let p = (s u).requires in
-    (p.0, (p.1, record { q-is = front-is (q u) _; e-is = front-is (e u) _; a-is = front-is (a u) _ })))  -- solve-words-requires
+    (p.0, (p.1, record { q_is = front_is (q u) _; e_is = front_is (e u) _; a_is = front_is (a u) _ })))  -- solve-words-requires
     (λ c. c.solve-words.ensures))  -- returns

@@ -2,9 +2,9 @@ use Rattle.folds.specs.Kit.{sym, ◌∙◌}
 use lib.Seq.{length-take-le}
 use Rattle.format.specs.Structs.{block_of}
 use Rattle.format.specs.Entries.{anchors-length, spans-length}
-use Rattle.block_rows.specs.Rows.{anchorValues, spanLowers, spanUppers}
-use Rattle.block_rows.specs.Laws.{length-anchorValues, length-spanLowers, length-spanUppers}
-use Rattle.block_solve.specs.Laws.{gathered, Front, front, front-room, front_long, front-is}
+use Rattle.block_rows.specs.Rows.{anchor_values, span_lowers, span_uppers}
+use Rattle.block_rows.specs.Laws.{length-anchor_values, length-span_lowers, length-span_uppers}
+use Rattle.block_solve.specs.Laws.{gathered, Front, front, front_room, front_long, front_is}
 use Rattle.block_solve.proofs.solve_rows.Statement.{statement}
 use Rattle.block_solve.proofs.solve_rows.Tie as tie
 
@@ -19,14 +19,14 @@ module _ (c : tie.After-row-upper2) where
   abbrev s : tie.Start
   s = start v
 
-  values : Front s.args.block.anchors v.anchor-values.last.1.0 (anchorValues (block_of s.args.block))
-  values = front v.anchor-values.ensures (length-anchorValues _ ∙ anchors-length s.pre.0)
+  values : Front s.args.block.anchors v.anchor-values.last.1.0 (anchor_values (block_of s.args.block))
+  values = front v.anchor-values.ensures (length-anchor_values _ ∙ anchors-length s.pre.0)
 
-  lowers : Front s.args.block.spans c.before.before.before.before.span-lowers.new.1.0 (spanLowers (block_of s.args.block))
-  lowers = front c.before.before.before.before.span-lowers.ensures (length-spanLowers _ ∙ spans-length s.pre.0)
+  lowers : Front s.args.block.spans c.before.before.before.before.span-lowers.new.1.0 (span_lowers (block_of s.args.block))
+  lowers = front c.before.before.before.before.span-lowers.ensures (length-span_lowers _ ∙ spans-length s.pre.0)
 
-  uppers : Front s.args.block.spans c.before.span-uppers.new.1.0 (spanUppers (block_of s.args.block))
-  uppers = front c.before.span-uppers.ensures (length-spanUppers _ ∙ spans-length s.pre.0)
+  uppers : Front s.args.block.spans c.before.span-uppers.new.1.0 (span_uppers (block_of s.args.block))
+  uppers = front c.before.span-uppers.ensures (length-span_uppers _ ∙ spans-length s.pre.0)
 
 pub solve-rows-spec : {M : Type 1} → statement M
 solve-rows-spec =
@@ -44,14 +44,14 @@ solve-rows-spec =
     (λ c. sym (length-take-le _ _ (start c.before.before.before.before.before).requires.0.spans))  -- slice-aggregate-span-uppers
     (λ c κs. let p = (start c.before.before.before.before.before).requires in
     (p.0, (p.1.0, length-take-le _ _ p.0.spans)))  -- span-uppers-requires
-    (λ c. front-room (values c) _)  -- array-share-prefix-b
+    (λ c. front_room (values c) _)  -- array-share-prefix-b
     (λ c. front_long (values c.before) _)  -- slice-aggregate-engine
-    (λ c. front-room (lowers c.before) _)  -- array-share-prefix-row-lower
+    (λ c. front_room (lowers c.before) _)  -- array-share-prefix-row-lower
     (λ c. front_long (lowers c.before.before) _)  -- slice-aggregate-engine-2
-    (λ c. front-room (uppers c.before.before) _)  -- array-share-prefix-row-upper
+    (λ c. front_room (uppers c.before.before) _)  -- array-share-prefix-row-upper
     (λ c. front_long (uppers c.before.before.before) _)  -- slice-aggregate-engine-3
     (λ c κs.
     let u = c.before.before.before in
     let p = (s u).requires in
-    (p.0, gathered p.0 p.1.1.0 p.1.1.1 (front-is (values u) _) (front-is (lowers u) _) (front-is (uppers u) _)))  -- engine-requires
+    (p.0, gathered p.0 p.1.1.0 p.1.1.1 (front_is (values u) _) (front_is (lowers u) _) (front_is (uppers u) _)))  -- engine-requires
     (λ c. c.engine.ensures))  -- returns

@@ -6,7 +6,7 @@ use Rattle.block_cost.specs.Cost as Cost
 use Rattle.block_cost.specs.Laws.{length-linear}
 use Rattle.word_numbers.specs.Words as Words
 use Rattle.word_numbers.specs.Laws.{length-lowers, length-uppers, length-keys, length-slopes, length-starts}
-use Rattle.block_solve.specs.Laws.{Front, front, front-room, front_long, front-is}
+use Rattle.block_solve.specs.Laws.{Front, front, front_room, front_long, front_is}
 use Rattle.block_solve.proofs.solve_words.Statement.{statement}
 use Rattle.block_solve.proofs.solve_words.Tie as tie
 
@@ -66,17 +66,17 @@ solve-words-spec =
     (λ c. sym (length-take-le _ _ (start c.before.before.before.before.before.before.before.before).requires.0.words))  -- slice-aggregate-starts
     (λ c κs. let p = (start c.before.before.before.before.before.before.before.before).requires in
     (p.0, length-take-le _ _ p.0.words))  -- starts-requires
-    (λ c. front-room (linear c) _)  -- array-share-prefix-c
+    (λ c. front_room (linear c) _)  -- array-share-prefix-c
     (λ c. front_long (linear c.before) _)  -- slice-aggregate-solve-rows-1
-    (λ c. front-room (lowers c.before) _)  -- array-share-prefix-lower
+    (λ c. front_room (lowers c.before) _)  -- array-share-prefix-lower
     (λ c. front_long (lowers c.before.before) _)  -- slice-aggregate-solve-rows-2
-    (λ c. front-room (uppers c.before.before) _)  -- array-share-prefix-upper
+    (λ c. front_room (uppers c.before.before) _)  -- array-share-prefix-upper
     (λ c. front_long (uppers c.before.before.before) _)  -- slice-aggregate-solve-rows-3
-    (λ c. front-room (keys c.before.before.before) _)  -- array-share-prefix-at
+    (λ c. front_room (keys c.before.before.before) _)  -- array-share-prefix-at
     (λ c. front_long (keys c.before.before.before.before) _)  -- slice-aggregate-solve-rows-4
-    (λ c. front-room (slopes c.before.before.before.before) _)  -- array-share-prefix-slopes
+    (λ c. front_room (slopes c.before.before.before.before) _)  -- array-share-prefix-slopes
     (λ c. front_long (slopes c.before.before.before.before.before) _)  -- slice-aggregate-solve-rows-5
-    (λ c. front-room (starts c.before.before.before.before.before) _)  -- array-share-prefix-start
+    (λ c. front_room (starts c.before.before.before.before.before) _)  -- array-share-prefix-start
     (λ c. front_long (starts c.before.before.before.before.before.before) _)  -- slice-aggregate-solve-rows-6
     (λ c κs.
     let u = c.before.before.before.before.before.before in
@@ -87,12 +87,12 @@ solve-words-spec =
         (
           p.1.1,
           record {
-            c-is = front-is (linear u) _;
-            lower-is = front-is (lowers u) _;
-            upper_is = front-is (uppers u) _;
-            at-is = front-is (keys u) _;
-            slopes-are = front-is (slopes u) _;
-            start_is = front-is (starts u) _;
+            c_is = front_is (linear u) _;
+            lower_is = front_is (lowers u) _;
+            upper_is = front_is (uppers u) _;
+            at_is = front_is (keys u) _;
+            slopes_are = front_is (slopes u) _;
+            start_is = front_is (starts u) _;
           },
         ),
       ),

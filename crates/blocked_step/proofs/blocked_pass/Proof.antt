@@ -1,16 +1,16 @@
 use Rattle.folds.specs.Kit.{◌≡◌, ◌∙◌, length, needs}
 use Rattle.sizes.specs.Sizes as Sizes
-use Rattle.iterate.specs.Laws.{passed-more, length-mapped, board-consistent}
-use Rattle.blocked_step.specs.BlockedStep.{blockedPass}
+use Rattle.iterate.specs.Laws.{passed-more, length_mapped, board_consistent}
+use Rattle.blocked_step.specs.BlockedStep.{blocked_pass}
 use Rattle.blocked_step.specs.Laws.{moved-placed}
 use Rattle.blocked_step.proofs.blocked_pass.Statement.{statement}
 use Rattle.blocked_step.proofs.blocked_pass.Tie as tie
 
 states : (c : tie.Start) → length c.args.iterate.board.state ≡ Sizes.variables
-states c = search (needs, length-mapped)
+states c = search (needs, length_mapped)
 
 returns : tie.Need-returns
-unfolding blockedPass
+unfolding blocked_pass
 returns c =
     let b = c.before.before in
     let s = b.before.before.before.before.before.before.before in
@@ -19,7 +19,7 @@ returns c =
     let i = e.1 ∙ c.before.with-board.ensures in (
       λ n m. passed-more n m c.ended.result e.0 ∙ rw (i, b.move-and-block.ensures),
       λ n below placed. rw (i, b.move-and-block.ensures)
-          (board-consistent n a.segments a.iterate _ _
+          (board_consistent n a.segments a.iterate _ _
           (moved-placed n a.segments _ _ _ _ _ _ _ _ _ a.iterate.board (states s) s.requires.0 s.requires.2 (below _ s.requires.2) placed)),
     )
 

@@ -1,6 +1,6 @@
 use Rattle.folds.specs.Kit.{arith, needs}
 use Rattle.lent_segments.specs.Laws.{free_in}
-use Rattle.blocked_step.specs.BlockedStep.{moveAndBlock}
+use Rattle.blocked_step.specs.BlockedStep.{move_and_block}
 use Rattle.blocked_step.proofs.move_and_block.Statement.{statement}
 use Rattle.blocked_step.proofs.move_and_block.Tie as tie
 
@@ -12,10 +12,10 @@ move-along-requires c κs =
     let s = c.before.before.before.before.before.before.before in
     let p = s.requires in (
       λ i h. omega (arith, p.0.below i h, slice-aggregate-move-along c),
-      p.1.x-holds,
-      p.1.d-holds,
-      p.1.lower-holds,
-      p.1.upper-holds,
+      p.1.x_holds,
+      p.1.d_holds,
+      p.1.lower_holds,
+      p.1.upper_holds,
     )
 
 block-of-requires : tie.Need-block-of-requires
@@ -24,7 +24,7 @@ block-of-requires c κs =
     (s.requires.0.below _ s.requires.2, s.requires.0.inside _ s.requires.2)
 
 returns : tie.Need-returns
-unfolding moveAndBlock
+unfolding move_and_block
 returns c =
     let m = c.before.before.before.before.before in
     let s = m.before.before.before.before.before.before.before.before in

@@ -1,12 +1,12 @@
 use Rattle.folds.specs.Kit.{◌≡◌, refl, sym, ◌∙◌, ◌+◌, ◌≤◌, arith, length, needs}
 use lib.Seq.{length-take-le}
 use Rattle.sizes.specs.Sizes as Sizes
-use Rattle.minimum.specs.Laws.{minimizedOf-optimal, minimizedOf-nonFinite, minimizedOf-singular, minimizedOf-unbounded, minimizedOf-notConverged}
-use Rattle.minimum.specs.Laws.{cappedOf-optimal, cappedOf-nonFinite, cappedOf-singular, cappedOf-notConverged}
+use Rattle.minimum.specs.Laws.{minimized_of-optimal, minimized_of-non_finite, minimized_of-singular, minimized_of-unbounded, minimized_of-not_converged}
+use Rattle.minimum.specs.Laws.{capped_of-optimal, capped_of-non_finite, capped_of-singular, capped_of-not_converged}
 use Rattle.bracket.specs.Ends.{new-rising}
 use Rattle.bracket.specs.Laws.{new-of}
-use Rattle.cap.specs.Capped.{searchBy}
-use Rattle.cap.specs.Laws.{search-free, search-past, search-unbounded, search-as}
+use Rattle.cap.specs.Capped.{search_by}
+use Rattle.cap.specs.Laws.{search_free, search_past, search_unbounded, search_as}
 use Rattle.cap.proofs.search_by.Statement.{statement}
 use Rattle.cap.proofs.search_by.Tie as tie
 
@@ -29,7 +29,7 @@ slice-aggregate-turnover c = sym (length-take-le _ _ (fits (start c)))
 
 turnover-requires : tie.Need-turnover-requires
 turnover-requires c κs =
-    let p = (start c).requires.0 in (omega (arith, p.originals), omega (arith, slice-aggregate-turnover c), p.at-holds)
+    let p = (start c).requires.0 in (omega (arith, p.originals), omega (arith, slice-aggregate-turnover c), p.at_holds)
 
 slice-aggregate-within : tie.Need-slice-aggregate-within
 slice-aggregate-within c = sym (length-take-le _ _ (fits (start c.before.before)))
@@ -37,9 +37,9 @@ slice-aggregate-within c = sym (length-take-le _ _ (fits (start c.before.before)
 returns : tie.Need-returns
 returns c =
     let t = c.before.before.before in
-    rw (minimizedOf-optimal _ _ (start t.before).args.solved t.before.before.before.before.enum_told.given.1)
-    (search-free _ _ _ _ _ _ _ _ _ _ _ _ _ _ _ _ _ _ _ _ t.turnover.ensures (sym c.before.within.ensures ∙ c.if1.true)
-    (cappedOf-optimal _ _ _ refl))
+    rw (minimized_of-optimal _ _ (start t.before).args.solved t.before.before.before.before.enum_told.given.1)
+    (search_free _ _ _ _ _ _ _ _ _ _ _ _ _ _ _ _ _ _ _ _ t.turnover.ensures (sym c.before.within.ensures ∙ c.if1.true)
+    (capped_of-optimal _ _ _ refl))
 
 reach-and-narrow-requires : tie.Need-reach-and-narrow-requires
 reach-and-narrow-requires c κs = let p = (start c.before.before.before.before.before).requires in (p.0, rw c.new.ensures (new-rising _ _ _ _ p.1))
@@ -57,8 +57,8 @@ returns-2 c =
     let t = k.before.before.before in
     let s = start t.before in
     let a = s.args in
-    rw (minimizedOf-optimal _ _ a.solved t.before.before.before.before.enum_told.given.1)
-    (search-past _ _ _ _ _ _ _ _ _ _ _ _ _ _ _ _ _ _ _ _ t.turnover.ensures (sym k.before.within.ensures ∙ k.if1.false)
+    rw (minimized_of-optimal _ _ a.solved t.before.before.before.before.enum_told.given.1)
+    (search_past _ _ _ _ _ _ _ _ _ _ _ _ _ _ _ _ _ _ _ _ t.turnover.ensures (sym k.before.within.ensures ∙ k.if1.false)
     (new-of a.n (a.m + a.r) _ _ _ c.before.before.new.ensures (columns-fit s))
     c.before.reach-and-narrow.ensures (c.accepted.ensures _ _))
 
@@ -66,13 +66,13 @@ returns-3 : tie.Need-returns-3
 returns-3 c =
     let s = start-2 c.before.before.before.before in
     let a = s.args in
-    rw (minimizedOf-unbounded _ _ a.solved c.before.before.before.before.enum-told2.given.1)
-    (search-unbounded _ _ _ _ _ _ _ _ _ _ _ _ _ _ _ _ _ c.before.before.before.infinity.ensures
+    rw (minimized_of-unbounded _ _ a.solved c.before.before.before.before.enum-told2.given.1)
+    (search_unbounded _ _ _ _ _ _ _ _ _ _ _ _ _ _ _ _ _ c.before.before.before.infinity.ensures
     (new-of a.n (a.m + a.r) _ _ _ c.before.before.new2.ensures (columns-fit s))
     c.before.reach-and-narrow2.ensures (c.accepted2.ensures _ _))
 
 pub search-by-spec : {M : Type 1} → statement M
-unfolding searchBy
+unfolding search_by
 search-by-spec =
     tie.close
     (tie.spec
@@ -100,9 +100,9 @@ search-by-spec =
     (λ c κs. search needs)  -- refused-capped-requires-3
     returns-2
     returns-3
-    (λ c. search-as _ _ _ _ _ _ _ _ _ _ _ _ _ _ _ _ _ (minimizedOf-nonFinite _ _ _ c.before.enum-told3.given.1)
-    (cappedOf-nonFinite _ _ _ c.refused-capped.ensures))  -- returns-4
-    (λ c. search-as _ _ _ _ _ _ _ _ _ _ _ _ _ _ _ _ _ (minimizedOf-singular _ _ _ c.before.enum-told4.given.1)
-    (cappedOf-singular _ _ _ c.refused-capped2.ensures))  -- returns-5
-    (λ c. search-as _ _ _ _ _ _ _ _ _ _ _ _ _ _ _ _ _ (minimizedOf-notConverged _ _ _ c.before.enum-told5.given.1)
-    (cappedOf-notConverged _ _ _ c.refused-capped3.ensures)))  -- returns-6
+    (λ c. search_as _ _ _ _ _ _ _ _ _ _ _ _ _ _ _ _ _ (minimized_of-non_finite _ _ _ c.before.enum-told3.given.1)
+    (capped_of-non_finite _ _ _ c.refused-capped.ensures))  -- returns-4
+    (λ c. search_as _ _ _ _ _ _ _ _ _ _ _ _ _ _ _ _ _ (minimized_of-singular _ _ _ c.before.enum-told4.given.1)
+    (capped_of-singular _ _ _ c.refused-capped2.ensures))  -- returns-5
+    (λ c. search_as _ _ _ _ _ _ _ _ _ _ _ _ _ _ _ _ _ (minimized_of-not_converged _ _ _ c.before.enum-told5.given.1)
+    (capped_of-not_converged _ _ _ c.refused-capped3.ensures)))  -- returns-6

@@ -2,17 +2,17 @@ use Rattle.folds.specs.Kit.{◌≡◌, true, false, ℕ, out, pick, kit}
 use mathlib.Core.List.{List}
 use lib.Ieee.{Float, lt}
 use Rattle.arith.specs.Float.{f0, sqrt}
-use Rattle.cholesky.specs.Cholesky.{underRoot, factorBelow, factorColumn}
+use Rattle.cholesky.specs.Cholesky.{under_root, factor_below, factor_column}
 use Rattle.cholesky.proofs.factor_column.Statement.{statement}
 use Rattle.cholesky.proofs.factor_column.Tie as tie
 
-module _ {d : Float} (n j : ℕ) (a : List Float) (under : d ≡ underRoot n j a) where
-  made : {r : Float} {b : List Float} → lt f0 d ≡ true → r ≡ sqrt d → b ≡ factorBelow n j r a → out true b ≡ factorColumn n j a
-  unfolding factorColumn pick
+module _ {d : Float} (n j : ℕ) (a : List Float) (under : d ≡ under_root n j a) where
+  made : {r : Float} {b : List Float} → lt f0 d ≡ true → r ≡ sqrt d → b ≡ factor_below n j r a → out true b ≡ factor_column n j a
+  unfolding factor_column pick
   made above root below = rw (below, root, ← under, above)
 
-  failed : lt f0 d ≡ false → out false a ≡ factorColumn n j a
-  unfolding factorColumn pick
+  failed : lt f0 d ≡ false → out false a ≡ factor_column n j a
+  unfolding factor_column pick
   failed above = rw (← under, above)
 
 pub factor-column-spec : {M : Type 1} → statement M

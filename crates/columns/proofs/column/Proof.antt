@@ -1,11 +1,11 @@
-use Rattle.folds.specs.Kit.{◌+◌, ◌*◌, ◌≤◌, ◌-◌, ◌≡◌, arith, length, col-end, part-tab}
+use Rattle.folds.specs.Kit.{◌+◌, ◌*◌, ◌≤◌, ◌-◌, ◌≡◌, arith, length, col_end, part-tab}
 use lib.Ieee.{nan}
 use Rattle.columns.specs.Columns.{column}
 use Rattle.columns.proofs.column.Statement.{statement}
 use Rattle.columns.proofs.column.Tie as tie
 
 ends : (c : tie.Start) → c.args.n + c.args.j * c.args.n ≤ length c.args.a.now
-ends c = col-end _ _ c.args.m _ c.requires.0 c.requires.1
+ends c = col_end _ _ c.args.m _ c.requires.0 c.requires.1
 
 pub column-spec : {M : Type 1} → statement M
 unfolding column

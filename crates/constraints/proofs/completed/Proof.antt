@@ -2,7 +2,7 @@ use Rattle.folds.specs.Kit.{◌-◌, ◌*◌, ◌≤◌, arith, kit, sym, ◌∙
 use native.Mathlib.Nat.{mul-le-mul_left}
 use lib.Seq.{length-take-le, take_at}
 use Rattle.folds.specs.Tab.{taken-over}
-use Rattle.constraints.specs.Laws.{length-rowsTransposed, completed-from}
+use Rattle.constraints.specs.Laws.{length-rows_transposed, completed-from}
 use Rattle.constraints.proofs.completed.Statement.{statement}
 use Rattle.constraints.proofs.completed.Tie as tie
 
@@ -69,7 +69,7 @@ returns c =
     let twice = b6.less-range-twice in
     take_at _ _ _ (twice.auto.0 ∙ sym (slice-aggregate-less-range-twice b6.before.before.before)) ∙
     completed-from a.n a.rank a.range.now b19.q-transpose.ensures
-    (taken-over _ _ (length-rowsTransposed _ _ _ _) b12.rows-transposed.ensures) twice.ensures
+    (taken-over _ _ (length-rows_transposed _ _ _ _) b12.rows-transposed.ensures) twice.ensures
 
 pub completed-spec : {M : Type 1} → statement M
 completed-spec =

@@ -1,8 +1,8 @@
 use Rattle.folds.specs.Kit.{kit}
 use Rattle.folds.specs.Tab.{over-whole}
 use Rattle.vector.specs.Laws.{length-sub}
-use Rattle.matrix.specs.Laws.{length-mul, length-trMul}
-use Rattle.constraints.specs.Laws.{less-from}
+use Rattle.matrix.specs.Laws.{length-mul, length-tr_mul}
+use Rattle.constraints.specs.Laws.{less_from}
 use Rattle.constraints.proofs.less_range.Statement.{statement}
 use Rattle.constraints.proofs.less_range.Tie as tie
 
@@ -14,7 +14,7 @@ returns c =
     let s = b12.before.before.before.before.before.before.before in
     let a = s.args in
     let r = s.requires in
-    less-from a.n a.rank a.range.now a.d a.null.now (over-whole _ _ (length-trMul _ _ _ _ _) r.2 b12.tr-mul.ensures)
+    less_from a.n a.rank a.range.now a.d a.null.now (over-whole _ _ (length-tr_mul _ _ _ _ _) r.2 b12.tr-mul.ensures)
     (over-whole _ _ (length-mul _ _ _ _ _) r.3 b7.mul.ensures) (over-whole _ _ (length-sub _ _ _) r.0 b2.sub-from.ensures)
 
 pub less-range-spec : {M : Type 1} → statement M

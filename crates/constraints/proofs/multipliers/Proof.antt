@@ -1,6 +1,6 @@
 use Rattle.folds.specs.Kit.{◌≡◌, ◌≤◌, arith, length, needs, kit, sym, ◌∙◌}
 use Rattle.sizes.specs.Sizes as Sizes
-use Rattle.vector.specs.Laws.{take-zeros}
+use Rattle.vector.specs.Laws.{take_zeros}
 use Rattle.constraints.specs.Laws.{multipliers-from}
 use lib.Seq.{length-take-le, take_at}
 use Rattle.constraints.proofs.multipliers.Statement.{statement}
@@ -46,7 +46,7 @@ returns c =
     let s = b5.before.before.before.before.before in
     let a = s.args in
     multipliers-from a.n a.m a.range.now a.coefficients.now a.pivots.now a.rank b5.smaller-of.ensures a.g.now
-    (take-zeros a.m Sizes.columns s.requires.6) b4.tr-mul-vec.ensures c.before.backward.ensures
+    (take_zeros a.m Sizes.columns s.requires.6) b4.tr-mul-vec.ensures c.before.backward.ensures
     (take_at _ _ _ (lambda-length c.before))
 
 pub multipliers-spec : {M : Type 1} → statement M

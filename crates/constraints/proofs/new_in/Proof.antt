@@ -24,10 +24,10 @@ p-n c = omega arith
 
 -- T and Y have room
 t-fits : (c : tie.After-smaller-of) → c.smaller-of.result * (start c).args.m ≤ length (start c).args.coefficients.now
-t-fits c = le_trans (rows_fit _ _ c.smaller-of.ensures) (start c).requires.0.coefficients-room
+t-fits c = le_trans (rows_fit _ _ c.smaller-of.ensures) (start c).requires.0.coefficients_room
 
 y-fits : (c : tie.After-smaller-of) → (start c).args.n * c.smaller-of.result ≤ length (start c).args.range.now
-y-fits c = le_trans (mul-le-mul_left _ (p-m c)) (start c).requires.0.range-room
+y-fits c = le_trans (mul-le-mul_left _ (p-m c)) (start c).requires.0.range_room
 
 mul-y : tie.Need-overflow-mul-y
 mul-y c = omega (arith, y-fits c)
@@ -42,7 +42,7 @@ factored-requires : tie.Need-factored-requires
 factored-requires c κs =
     let b3 = c.before.before.before in
     let r = (start b3).requires in (
-      r.0.e-holds,
+      r.0.e_holds,
       length-take-le _ _ r.1,
       sym (slice-aggregate-factored-2 c.before),
       sym (slice-aggregate-factored-3 c),
@@ -95,7 +95,7 @@ null-space-requires c κs =
       omega (arith, left, y, r.1),
       omega (arith, left, part, mul_comm n m, r.1),
       r.2,
-      r.0.null-room,
+      r.0.null_room,
       omega (arith, few, p-n b14),
       omega (arith, few, p-m b14, r.0.columns),
       r.0.few,

@@ -1,7 +1,7 @@
 use Rattle.folds.specs.Kit.{◌≡◌, arith, length, kit, ◌∙◌, length-tab}
 use Rattle.vector.specs.Laws.{copy-over}
 use Rattle.matrix.specs.Laws.{over-identity}
-use Rattle.constraints.specs.Laws.{transposed-from}
+use Rattle.constraints.specs.Laws.{transposed_from}
 use Rattle.constraints.proofs.q_transpose_in.Statement.{statement}
 use Rattle.constraints.proofs.q_transpose_in.Tie as tie
 
@@ -34,7 +34,7 @@ returns c =
     let s = b19.before.before.before.before.before.before in
     let a = s.args in
     let r = s.requires in
-    transposed-from a.n a.rank a.range.now (b15.copy.ensures ∙ copy-over _ _ _ r.0 r.1) r.2
+    transposed_from a.n a.rank a.range.now (b15.copy.ensures ∙ copy-over _ _ _ r.0 r.1) r.2
     (b19.identity.ensures ∙ over-identity _ _ r.3) b10.qr.ensures c.before.before.q-tr-mul.ensures
 
 pub q-transpose-in-spec : {M : Type 1} → statement M

@@ -1,6 +1,6 @@
 use Rattle.folds.specs.Kit.{◌≡◌, ◌≤◌, arith, length, kit, sym, ◌∙◌}
 use Rattle.sizes.specs.Sizes as Sizes
-use Rattle.vector.specs.Laws.{take-zeros}
+use Rattle.vector.specs.Laws.{take_zeros}
 use Rattle.constraints.specs.Laws.{smallest-from}
 use lib.ListN.{length-append}
 use lib.Seq.{length-take-le, take_at}
@@ -42,7 +42,7 @@ returns c =
     let s = b5.before.before.before.before.before in
     let a = s.args in
     smallest-from a.n a.m a.range.now a.coefficients.now a.pivots.now a.rank b5.smaller-of.ensures a.b.now
-    (take-zeros a.rank Sizes.columns (few s)) b3.forward.ensures (take_at _ _ _ (u-length b3)) c.mul-vec.ensures
+    (take_zeros a.rank Sizes.columns (few s)) b3.forward.ensures (take_at _ _ _ (u-length b3)) c.mul-vec.ensures
 
 pub smallest-feasible-spec : {M : Type 1} → statement M
 smallest-feasible-spec =

@@ -1,4 +1,4 @@
-use Rattle.folds.specs.Kit.{◌≡◌, ◌-◌, ◌≤◌, arith, length, length-set, set, fold, fold-call, over-kit}
+use Rattle.folds.specs.Kit.{◌≡◌, ◌-◌, ◌≤◌, arith, length, length-set, set, fold, fold_call, over-kit}
 use Rattle.arith.specs.Float.{fmul}
 use Rattle.columns.specs.Columns.{cell}
 use Rattle.eigen.specs.Eigen.{values}
@@ -17,6 +17,6 @@ eigenvalues-spec =
     tie.close
     (tie.spec invariant-loop decreases-loop (λ c. search over-kit) (λ c κs. search over-kit) (λ c. search over-kit) (λ c. search over-kit) (λ c. search over-kit)
     (λ c. search over-kit)
-    (λ c. let at = c.before.before.loop in (omega arith, simp length-set at.invariant.1, fold-call _ _ _ at.invariant.2 (rw c.get.ensures)))  -- loop-again
+    (λ c. let at = c.before.before.loop in (omega arith, simp length-set at.invariant.1, fold_call _ _ _ at.invariant.2 (rw c.get.ensures)))  -- loop-again
     (λ c. search over-kit)
     (λ c. search over-kit))  -- returns

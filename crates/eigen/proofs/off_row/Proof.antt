@@ -1,7 +1,7 @@
-use Rattle.folds.specs.Kit.{◌≡◌, ◌+◌, ◌-◌, ◌≤◌, arith, needs, span, spans, span-call}
+use Rattle.folds.specs.Kit.{◌≡◌, ◌+◌, ◌-◌, ◌≤◌, arith, needs, span, spans, span_call}
 use Rattle.arith.specs.Float.{fadd, fmul}
 use Rattle.columns.specs.Columns.{cell}
-use Rattle.eigen.specs.Eigen.{offRow}
+use Rattle.eigen.specs.Eigen.{off_row}
 use Rattle.eigen.proofs.off_row.Statement.{statement}
 use Rattle.eigen.proofs.off_row.Tie as tie
 
@@ -14,9 +14,9 @@ decreases-loop a n p sum s₀ q₀ s q = n - q
 ruleset kit = (spans, needs)
 
 pub off-row-spec : {M : Type 1} → statement M
-unfolding offRow
+unfolding off_row
 off-row-spec =
     tie.close
     (tie.spec invariant-loop decreases-loop (λ c. search kit) (λ c. search kit) (λ c κs. search kit) (λ c. search kit) (λ c. search kit)
-    (λ c. let at = c.before.before.loop.invariant in (omega arith, omega arith, span-call _ _ _ _ at.0 at.2 (rw c.get.ensures)))  -- loop-again
+    (λ c. let at = c.before.before.loop.invariant in (omega arith, omega arith, span_call _ _ _ _ at.0 at.2 (rw c.get.ensures)))  -- loop-again
     (λ c. search kit))  -- returns

@@ -1,7 +1,7 @@
 use Rattle.folds.specs.Kit.{◌≡◌, ◌-◌, ◌≤◌, arith, length, refl, kit}
 use Rattle.folds.specs.Part.{two}
 use Rattle.eigen.specs.Eigen.{sweeps}
-use Rattle.eigen.proofs.Passes.{Left, all_left, spent, broken, found, again}
+use Rattle.eigen.proofs.Passes.{Left, all-left, spent, broken, found, again}
 use Rattle.eigen.proofs.sweeps.Statement.{statement}
 use Rattle.eigen.proofs.sweeps.Tie as tie
 
@@ -16,13 +16,13 @@ pub sweeps-spec : {M : Type 1} → statement M
 sweeps-spec =
     tie.close
     (tie.spec invariant-loop decreases-loop
-    (λ c. (omega arith, refl, refl, all_left _ _ _))  -- loop-holds
+    (λ c. (omega arith, refl, refl, all-left _ _ _))  -- loop-holds
     (λ c κs. search kit) (λ c κs. search kit) (λ c. search kit) (λ c. search kit)
     (λ c. broken _ _ _ _ _ (omega arith) c.before.before.off-diagonal.ensures
-    c.before.is-nan.ensures c.before.before.before.before.before.loop.invariant.3 c.if1.true)  -- returns
+    c.before.is_nan.ensures c.before.before.before.before.before.loop.invariant.3 c.if1.true)  -- returns
     (λ c κs. search kit) (λ c. search kit) (λ c. search kit)
     (λ c. let o = c.before.before.before.before in
-    found _ _ _ _ _ (omega arith) o.off-diagonal.ensures c.before.before.before.is-nan.ensures
+    found _ _ _ _ _ (omega arith) o.off-diagonal.ensures c.before.before.before.is_nan.ensures
     o.before.before.before.loop.invariant.3 c.before.before.if1.false c.before.sqrt.ensures c.if2.true)  -- returns-2
     (λ c κs. search kit) (λ c. search kit) (λ c. search kit)
     (λ c. let w = c.before.before.before.before in let o = w.before.before.before.before.before.before.before in
@@ -31,7 +31,7 @@ sweeps-spec =
       omega arith,
       omega arith,
       again _ _ _ _ _ (omega arith) o.off-diagonal.ensures
-          w.before.before.before.before.before.before.is-nan.ensures at.3 w.before.before.before.before.before.if1.false
+          w.before.before.before.before.before.before.is_nan.ensures at.3 w.before.before.before.before.before.if1.false
           w.before.before.before.before.sqrt.ensures w.before.before.before.if2.false w.sweep.ensures,
     ))  -- loop-again
     (λ c. search kit) (λ c. search kit)

@@ -1,12 +1,12 @@
 use Rattle.folds.specs.Kit.{◌≡◌, ◌-◌, ◌≤◌, length, fold}
-use Rattle.columns.specs.Columns.{putColumn}
+use Rattle.columns.specs.Columns.{put_column}
 use Rattle.columns.specs.Laws.{matrix-kit}
 use Rattle.eigen.specs.Eigen.{mean, symmetric}
 use Rattle.eigen.proofs.symmetric.Statement.{statement}
 use Rattle.eigen.proofs.symmetric.Tie as tie
 
 abbrev invariant-loop : tie.invariant-loop
-invariant-loop r n a₀ j₀ a j = (j ≤ n) × (length a ≡ length a₀) × (a ≡ fold j (λ t l. putColumn n n t (λ i. mean n r i t) l) a₀)
+invariant-loop r n a₀ j₀ a j = (j ≤ n) × (length a ≡ length a₀) × (a ≡ fold j (λ t l. put_column n n t (λ i. mean n r i t) l) a₀)
 
 abbrev decreases-loop : tie.decreases-loop
 decreases-loop r n a₀ j₀ a j = n - j

@@ -1,6 +1,6 @@
 use Rattle.folds.specs.Kit.{kit}
 use borrow.Author.Tests.{not-true, not-false}
-use Rattle.eigen.proofs.Whole.{refused, of_zero, divisible, swept}
+use Rattle.eigen.proofs.Whole.{refused, of-zero, divisible, swept}
 use Rattle.eigen.proofs.symmetric_eigen.Statement.{statement}
 use Rattle.eigen.proofs.symmetric_eigen.Tie as tie
 
@@ -15,7 +15,7 @@ symmetric-eigen-spec =
     (λ c. let i = c.before.before in let f = i.before.before.before.before in let m = f.before.before.before in
     let k = m.before.before.before in
     let pre = k.before.before.before.before.before.before.requires in
-    of_zero _ _ pre.0 k.all-finite.ensures (not-false k.all-finite.result m.before.before.if1.false) m.amax.ensures _ _
+    of-zero _ _ pre.0 k.all-finite.ensures (not-false k.all-finite.result m.before.before.if1.false) m.amax.ensures _ _
     f.before.before.if2.true pre.2 pre.3 f.fill.ensures i.identity.ensures)  -- returns-2
     (λ c κs. let z = c.before.before.before.before in let m = z.before in let k = m.before.before.before in
     let pre = k.before.before.before.before.before.before.requires in (

@@ -1,7 +1,7 @@
 use mathlib.Core.Path.{sym, ◌∙◌, ap}
 use mir.Syntax.{w64}
 use mir.Val.{of_z}
-use Rattle.ints.specs.Bound.{sfits, pos-b}
+use Rattle.ints.specs.Bound.{sfits, pos_b}
 use Rattle.ints.specs.Held.{Held, cell, called, cast, read, fits*, by}
 use Rattle.block.specs.Plan.{move}
 use Rattle.block.specs.Laws.{bend-is}
@@ -22,7 +22,7 @@ pub bend-spec : {M : Type 1} → statement M
 bend-spec =
     tie.close
     (tie.spec
-    (λ c. sfits (pos-b c.before.requires.0.slope) tt)
+    (λ c. sfits (pos_b c.before.requires.0.slope) tt)
     (λ c κs. (c.before.requires.0, read (cell w64 c.before.requires.1 tt)))
     (λ c. fits* (cast w64 c.before.before.requires.0.slope tt) (moved c) tt)
     (λ c. (by (cast w64 c.before.before.requires.0.slope tt) (moved c) tt).is ∙ sym (bend-is _ _)))

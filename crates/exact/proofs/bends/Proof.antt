@@ -6,14 +6,14 @@ use mir.Syntax.{w64}
 use mir.Val.{of_z}
 use Rattle.ints.specs.Sum.{Σ}
 use Rattle.ints.specs.Bound.{◌≼◌}
-use Rattle.ints.specs.Held.{Held, called, read, Sums, Σ-none, Σ-fits, Σ-turn, Σ-end}
+use Rattle.ints.specs.Held.{Held, called, read, Sums, Σ-none, Σ-fits, Σ_turn, Σ_end}
 use Rattle.block.specs.Block.{word}
 use Rattle.block.specs.Plan.{time, bend}
 use Rattle.block.specs.Laws.{bends-is}
 use Rattle.block.specs.Fits.{bend-b, bends-b}
 use Rattle.format.specs.Structs.{block_of}
 use Rattle.format.specs.Entries.{words-length, in_words, word_in}
-use Rattle.exact.specs.Planned.{plan-timed, time-in, timed-at, of_word}
+use Rattle.exact.specs.Planned.{plan-timed, time_in, timed-at, of-word}
 use Rattle.exact.proofs.bends.Statement.{statement}
 use Rattle.exact.proofs.bends.Tie as tie
 
@@ -34,8 +34,8 @@ module _ (c : tie.After-bend invariant-loop decreases-loop) where
       (bend (word (block_of a.args.t1) t.loop.i) (time a.args.times.now t.loop.i)) 34359214080
   term =
       let h = c.before.before.before.loop-test.true in
-      called w64 (of_word a.pre h c.before.time-at.ensures bend c.bend.ensures)
-      (bend-b (a.pre.ranged.each_word _ (in_words a.pre.sound h)) (time-in a.pre h)) tt
+      called w64 (of-word a.pre h c.before.time-at.ensures bend c.bend.ensures)
+      (bend-b (a.pre.ranged.each_word _ (in_words a.pre.sound h)) (time_in a.pre h)) tt
 
   so-far-b : Σ t.loop.i (λ i. bend (word (block_of a.args.t1) i) (time a.args.times.now i)) ≼ 1099494850560
   so-far-b = bends-b a.pre.ranged (plan-timed a.pre) t.loop.i (omega (arith, t.loop.inv.0, words-length a.pre.sound))
@@ -55,7 +55,7 @@ bends-spec =
     (λ c. Σ-fits (t c).loop.invariant.1 (so-far-b c) (term c) tt)
     (λ c. search rules)
     (λ c. search rules)
-    (λ c. (search rules, Σ-turn (t c).loop.invariant.1 (so-far-b c) (term c) tt))
+    (λ c. (search rules, Σ_turn (t c).loop.invariant.1 (so-far-b c) (term c) tt))
     (λ c.
     let n = words-length c.before.before.requires.sound in
-    Σ-end c.before.loop.invariant.1 _ (omega arith) (omega arith) ∙ sym (bends-is _ _)))
+    Σ_end c.before.loop.invariant.1 _ (omega arith) (omega arith) ∙ sym (bends-is _ _)))

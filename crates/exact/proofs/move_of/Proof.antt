@@ -3,7 +3,7 @@ use lib.Dec.{lit≤}
 use lib.IntN.{pos, ◌-ℤ◌}
 use mir.Syntax.{w64}
 use mir.Val.{to_z, of_z}
-use Rattle.ints.specs.Bound.{loose, sfits, pos-b}
+use Rattle.ints.specs.Bound.{loose, sfits, pos_b}
 use Rattle.ints.specs.Held.{Held, cell, called, cast, read, fits-, less}
 use Rattle.block.specs.Plan.{abs}
 use Rattle.block.specs.Laws.{move-is}
@@ -18,9 +18,9 @@ pub move-of-spec : {M : Type 1} → statement M
 move-of-spec =
     tie.close
     (tie.spec
-    (λ c. sfits (pos-b c.before.requires.0.key) tt)
+    (λ c. sfits (pos_b c.before.requires.0.key) tt)
     (λ c. fits- (cell w64 c.before.requires.1 tt) (cast w64 c.before.requires.0.key tt) tt)
     (λ c κs. loose (lit≤ tt) (read (off c.before)))
     (λ c.
     let o = off c.before.before in
-    (called w64 (c.abs.ensures ∙ ap abs o.is) (pos-b o.bound.size) tt).is ∙ sym (move-is _ _)))
+    (called w64 (c.abs.ensures ∙ ap abs o.is) (pos_b o.bound.size) tt).is ∙ sym (move-is _ _)))

@@ -4,7 +4,7 @@ use lib.ListN.{take}
 use Rattle.folds.specs.Tab.{taken-over}
 use Rattle.folds.specs.Marks.{rising, rising-few, rising-below}
 use Rattle.columns.specs.Laws.{length-column}
-use Rattle.factor_update.specs.Factor.{columnOn}
+use Rattle.factor_update.specs.Factor.{column_on}
 use Rattle.factor_update.proofs.column_on.Statement.{statement}
 use Rattle.factor_update.proofs.column_on.Tie as tie
 
@@ -30,7 +30,7 @@ select-requires c κs =
     )
 
 returns : tie.Need-returns
-unfolding columnOn
+unfolding column_on
 returns c =
     let r = c.before.before.before.before.before.before.before in
     rw (c.before.before.select.ensures, c.before.before.before.before.before.column.ensures, lent r, r.rising.ensures.0)
@@ -41,7 +41,7 @@ column-on-spec =
     (tie.spec
     (λ c. search kit)  -- slice-aggregate-rising
     (λ c κs. search kit)  -- rising-requires
-    (λ c κs. let s = c.before.before.before.before.before in (s.requires.0.q-holds, omega (arith, s.requires.0.within)))  -- column-requires
+    (λ c κs. let s = c.before.before.before.before.before in (s.requires.0.q_holds, omega (arith, s.requires.0.within)))  -- column-requires
     (λ c. let r = c.before.before in omega (arith, few r, r.before.before.before.before.requires.0.few))  -- array-share-prefix-list
     slice-aggregate-select  -- slice-aggregate-select
     select-requires  -- select-requires

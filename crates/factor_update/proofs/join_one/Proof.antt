@@ -1,7 +1,7 @@
 use Rattle.folds.specs.Kit.{◌≤◌, arith, pick, kit}
 use Rattle.folds.specs.Cell.{area}
 use Rattle.folds.specs.Marks.{place-few}
-use Rattle.factor_update.specs.Held.{tested, joinOne}
+use Rattle.factor_update.specs.Held.{tested, join_one}
 use Rattle.factor_update.proofs.join_one.Statement.{statement}
 use Rattle.factor_update.proofs.join_one.Tie as tie
 
@@ -10,10 +10,10 @@ positive-definite-requires c κs =
     let s = c.before.before.before.before.before.before.before.before.before.before.before.before.before.before in
     let few : c.before.place.result ≤ s.args.originals = rw c.before.place.ensures
     (place-few c.before.before.before.before.before.before.joined.result s.args.originals) in
-    omega (arith, area few few, s.requires.1.l-holds)
+    omega (arith, area few few, s.requires.1.l_holds)
 
 pub join-one-spec : {M : Type 1} → statement M
-unfolding joinOne tested pick
+unfolding join_one tested pick
 join-one-spec =
     tie.close
     (tie.spec

@@ -4,9 +4,9 @@ use Rattle.folds.specs.Cell.{area}
 use Rattle.folds.specs.Tab.{taken-over}
 use Rattle.folds.specs.Marks.{rising, place, place-le, place-room, place-joined}
 use Rattle.sizes.specs.Sizes as Sizes
-use Rattle.factor_update.specs.Factor.{columnOn}
+use Rattle.factor_update.specs.Factor.{column_on}
 use Rattle.factor_update.specs.Held.{joined}
-use Rattle.factor_update.specs.Laws.{length-columnOn}
+use Rattle.factor_update.specs.Laws.{length-column_on}
 use Rattle.factor_update.proofs.joined.Statement.{statement}
 use Rattle.factor_update.proofs.joined.Tie as tie
 
@@ -24,19 +24,19 @@ room c =
 
 -- the column has one entry more than were held
 column-length : (c : tie.After-column-on) → let s = c.before.before.before.before.before.before.before in
-    length (columnOn s.args.q.now s.args.n (rising s.args.originals (set s.args.s s.args.i true)) s.args.i) ≡
+    length (column_on s.args.q.now s.args.n (rising s.args.originals (set s.args.s s.args.i true)) s.args.i) ≡
     c.before.before.before.place.result + 1
 unfolding place
 column-length c =
     let s = c.before.before.before.before.before.before.before in
-    length-columnOn _ _ _ _
+    length-column_on _ _ _ _
     ∙ place-joined s.args.s s.args.i s.args.originals s.requires.2 (omega (arith, s.requires.0.few, s.requires.2, marks-length s)) s.requires.3
     ∙ rw c.before.before.before.place.ensures
 
 -- the part of the array that is lent is the column
 lent : (c : tie.After-column-on) → let s = c.before.before.before.before.before.before.before in
     take (c.before.before.before.place.result + 1) c.column-on.new.1.1.1.1.1.0 ≡
-    columnOn s.args.q.now s.args.n (rising s.args.originals (set s.args.s s.args.i true)) s.args.i
+    column_on s.args.q.now s.args.n (rising s.args.originals (set s.args.s s.args.i true)) s.args.i
 lent c = taken-over _ _ (column-length c) c.column-on.ensures
 
 slice-aggregate-insert-column : tie.Need-slice-aggregate-insert-column
@@ -52,8 +52,8 @@ insert-column-requires c κs =
       omega (arith, r.0, s.requires.0.few),
       r.1,
       omega (arith, slice-aggregate-insert-column c.before),
-      omega (arith, area k k, s.requires.1.l-holds),
-      omega (arith, area n n, s.requires.1.room-holds),
+      omega (arith, area k k, s.requires.1.l_holds),
+      omega (arith, area n n, s.requires.1.room_holds),
     )
 
 returns : tie.Need-returns

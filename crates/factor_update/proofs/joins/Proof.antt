@@ -1,8 +1,8 @@
-use Rattle.folds.specs.Kit.{◌≡◌, true, false, ◌-◌, ◌≤◌, ap, arith, length, needs, walk, out, walk_call, walk-stop, walks}
+use Rattle.folds.specs.Kit.{◌≡◌, true, false, ◌-◌, ◌≤◌, ap, arith, length, needs, walk, out, walk_call, walk_stop, walks}
 use Rattle.folds.specs.Fold.{walk_end}
 use borrow.Author.Tests.{not-true, not-false}
 use Rattle.leaving.specs.Held.{held}
-use Rattle.factor_update.specs.Held.{joinOne, joins, factorOf}
+use Rattle.factor_update.specs.Held.{join_one, joins, factor_of}
 use Rattle.factor_update.proofs.joins.Statement.{statement}
 use Rattle.factor_update.proofs.joins.Tie as tie
 
@@ -11,7 +11,7 @@ invariant-loop l₀ q n originals wanted room₀ s₀ i₀ l room s i =
     (i ≤ originals)
     × (length l ≡ length l₀)
     × (length room ≡ length room₀)
-    × (out true (held s l) ≡ walk i (joinOne q n originals wanted) (held s₀ l₀))
+    × (out true (held s l) ≡ walk i (join_one q n originals wanted) (held s₀ l₀))
 
 abbrev decreases-loop : tie.decreases-loop
 decreases-loop l₀ q n originals wanted room₀ s₀ i₀ l room s i = originals - i
@@ -21,18 +21,18 @@ ruleset kit = (walks, needs)
 join-one-requires : tie.Need-join-one-requires invariant-loop decreases-loop
 join-one-requires c κs =
     let p = c.before.before.before.before.before.before.before.requires in
-    (p.0, record { few = p.1.few; l-holds = omega (arith, p.1.l-holds); room-holds = omega (arith, p.1.room-holds) }, omega arith)
+    (p.0, record { few = p.1.few; l_holds = omega (arith, p.1.l_holds); room_holds = omega (arith, p.1.room_holds) }, omega arith)
 
 pub joins-spec : {M : Type 1} → statement M
-unfolding joins factorOf
+unfolding joins factor_of
 joins-spec =
     tie.close
     (tie.spec invariant-loop decreases-loop (λ c. search kit)
     join-one-requires  -- join-one-requires
     (λ c. search kit) (λ c. search kit)
     (λ c. let w = not-true c.before.before.before.before.before.before.before.join_one.result.ok c.if1.true in
-    ap factorOf
-    (walk-stop _ _ _ _ c.before.before.before.before.before.before.before.before.before.before.loop-test.true
+    ap factor_of
+    (walk_stop _ _ _ _ c.before.before.before.before.before.before.before.before.before.before.loop-test.true
     c.before.before.before.before.before.before.before.before.before.before.before.loop.invariant.3
     (rw w at c.before.before.before.before.before.before.before.join_one.ensures)))  -- returns
     (λ c. search kit) (λ c. search kit)
@@ -44,4 +44,4 @@ joins-spec =
           (rw w at c.before.before.before.before.before.before.before.join_one.ensures),
     ))  -- loop-again
     (λ c. search kit) (λ c. search kit)
-    (λ c. let inv = c.before.loop.invariant in ap factorOf (walk_end _ _ _ _ inv.0 c.loop-test.false inv.3)))  -- returns-2
+    (λ c. let inv = c.before.loop.invariant in ap factor_of (walk_end _ _ _ _ inv.0 c.loop-test.false inv.3)))  -- returns-2

@@ -1,19 +1,19 @@
 use Rattle.folds.specs.Kit.{◌≤◌, arith, length, pick, kit}
 use Rattle.sizes.specs.Sizes as Sizes
-use Rattle.variable_set.specs.Laws.{listed-few, listed_below}
+use Rattle.variable_set.specs.Laws.{listed_few, listed_below}
 use Rattle.factor_update.specs.Held.{updated}
 use Rattle.factor_update.specs.Lists.{updated-same}
 use Rattle.factor_update.proofs.updated.Statement.{statement}
 use Rattle.factor_update.proofs.updated.Tie as tie
 
 listed-count : (c : tie.Start) → length c.args.indices.now ≤ Sizes.originals
-listed-count c = omega (arith, c.requires.0.few, listed-few c.args.originals c.args.indices.now c.requires.3)
+listed-count c = omega (arith, c.requires.0.few, listed_few c.args.originals c.args.indices.now c.requires.3)
 
 joins-requires : tie.Need-joins-requires
 joins-requires c κs =
     let l = c.before.before.before.before.before.before in
     let p = l.before.before.before.before.before.before.before.before.before.before.before.before.before.requires in
-    (p.0, record { few = p.1.few; l-holds = omega (arith, p.1.l-holds); room-holds = omega (arith, p.1.room-holds) })
+    (p.0, record { few = p.1.few; l_holds = omega (arith, p.1.l_holds); room_holds = omega (arith, p.1.room_holds) })
 
 returns : tie.Need-returns
 unfolding updated pick

@@ -1,11 +1,11 @@
 use Rattle.folds.specs.Kit.{◌≡◌, true, ◌-◌, ◌≤◌, length, needs, all, alls}
-use Rattle.folds.specs.Fold.{all-stop, all-turn}
+use Rattle.folds.specs.Fold.{all_stop, all_turn}
 use Rattle.folds.specs.Marks.{contains}
 use borrow.Author.Tests.{not-true, not-false}
 use Rattle.sizes.specs.Sizes as Sizes
 use Rattle.matrix.specs.Matrix.{index}
 use Rattle.variable_set.specs.Laws.{marked-marks}
-use Rattle.factoring.specs.Kept.{containsAll}
+use Rattle.factoring.specs.Kept.{contains_all}
 use Rattle.factoring.proofs.contains_all.Statement.{statement}
 use Rattle.factoring.proofs.contains_all.Tie as tie
 
@@ -18,12 +18,12 @@ decreases-loop indices s listed t₀ t-end t = length s - t
 ruleset kit = (alls, needs)
 
 returns : tie.Need-returns invariant-loop decreases-loop
-unfolding containsAll
+unfolding contains_all
 returns c =
     let s = c.before.before.before.before.before.before.before in
     let t = c.before.before.before.loop.t in
     let h = c.before.before.loop-test.true in
-    all-stop _ _ _ h
+    all_stop _ _ _ h
     (rw (
       ← marked-marks Sizes.originals s.args.indices.now (index s.args.s.now t) (s.requires.1 t h),
       ← c.before.before.before.before.marks.ensures,
@@ -35,7 +35,7 @@ loop-again c =
     let t = c.before.before.before.loop.t in
     let h = c.before.before.loop-test.true in (
       search needs,
-      all-turn _ _ c.before.before.before.loop.invariant.1
+      all_turn _ _ c.before.before.before.loop.invariant.1
           (rw (
             ← marked-marks Sizes.originals s.args.indices.now (index s.args.s.now t) (s.requires.1 t h),
             ← c.before.before.before.before.marks.ensures,
@@ -43,7 +43,7 @@ loop-again c =
     )
 
 pub contains-all-spec : {M : Type 1} → statement M
-unfolding containsAll
+unfolding contains_all
 contains-all-spec =
     tie.close
     (tie.spec invariant-loop decreases-loop

@@ -1,7 +1,7 @@
 use Rattle.folds.specs.Kit.{sym, needs, kit}
 use lib.Seq.{length-take-le}
-use Rattle.factoring.specs.Kept.{lastUpdated}
-use Rattle.factoring.specs.Laws.{some-listed, none-listed}
+use Rattle.factoring.specs.Kept.{last_updated}
+use Rattle.factoring.specs.Laws.{some_listed, none_listed}
 use Rattle.factoring.proofs.Lists.{Lists, written}
 use Rattle.factoring.proofs.last_updated.Statement.{statement}
 use Rattle.factoring.proofs.last_updated.Tie as tie
@@ -13,7 +13,7 @@ listed : (c : tie.After-rising) → Lists (start c).args.held c.rising.result c.
 listed c = written _ _ c.rising.auto.1.1.0 c.rising.ensures.0 c.rising.ensures.1
 
 pub last-updated-spec : {M : Type 1} → statement M
-unfolding lastUpdated
+unfolding last_updated
 last-updated-spec =
     tie.close
     (tie.spec
@@ -26,5 +26,5 @@ last-updated-spec =
     (λ c. search kit)  -- same-length
     (λ c. search kit)  -- same-length-2
     (λ c. let r = c.before.before.before.before.before.before.before.before.before in
-    rw (some-listed _ r.before.before.if1.true, ← (listed r).lent) c.before.before.before.before.updated.ensures)  -- returns
-    (λ c. rw (none-listed _ c.if1.false)))  -- returns-2
+    rw (some_listed _ r.before.before.if1.true, ← (listed r).lent) c.before.before.before.before.updated.ensures)  -- returns
+    (λ c. rw (none_listed _ c.if1.false)))  -- returns-2

@@ -3,7 +3,7 @@ use Prim.Native.Nat.{◌≤◌}
 use native.Mathlib.Omega.{arith}
 use lib.ListN.{length}
 use lib.Seq.{length-take-le}
-use Rattle.format.specs.Longest.{enough, read_kept}
+use Rattle.format.specs.Longest.{enough, read-kept}
 use Rattle.format.proofs.kept.Statement.{statement}
 use Rattle.format.proofs.kept.Tie as tie
 
@@ -16,4 +16,4 @@ kept-spec =
     tie.close
     (tie.spec
     (λ c. sym (length-take-le _ _ c.before.before.requires))
-    (λ c file e. let a = c.before.before in read_kept file a.args.bytes.now a.args.n (room c.before) e))
+    (λ c file e. let a = c.before.before in read-kept file a.args.bytes.now a.args.n (room c.before) e))

@@ -3,7 +3,7 @@ use lib.Dec.{leb}
 use lib.Seq.{take-length, length-take-le}
 use borrow.Author.Tests.{le-leb, lt-leb}
 use Rattle.folds.specs.Fold.{some-none, some_turn, some_end}
-use Rattle.folds.specs.Position.{partitionPoint, position-stop, position-none}
+use Rattle.folds.specs.Position.{partition_point, position_stop, position-none}
 use Rattle.free_list.proofs.split_slacks.Statement.{statement}
 use Rattle.free_list.proofs.split_slacks.Tie as tie
 
@@ -20,19 +20,19 @@ slice-aggregate-result : tie.Need-slice-aggregate-result invariant-loop decrease
 slice-aggregate-result c = sym (length-take-le _ _ (omega arith))
 
 returns : tie.Need-returns invariant-loop decreases-loop
-unfolding partitionPoint
+unfolding partition_point
 returns c =
     let g = c.before.before.before in
     let a = g.before.before.args in
     let p : ℕ → Bool = λ k. leb a.originals (get_or a.indices.now k 0) in
     let e = le-leb _ _ c.before.if1.true in
-    rw (← position-stop g.before.loop.i (length a.indices.now) p g.loop-test.true g.before.loop.invariant.1 e)
+    rw (← position_stop g.before.loop.i (length a.indices.now) p g.loop-test.true g.before.loop.invariant.1 e)
 
 loop-again : tie.Need-loop-preserved invariant-loop decreases-loop
 loop-again c = (omega arith, some_turn _ _ c.before.before.before.loop.invariant.1 (lt-leb _ _ c.if1.false))
 
 returns-2 : tie.Need-returns-2 invariant-loop decreases-loop
-unfolding partitionPoint
+unfolding partition_point
 returns-2 c =
     let a = c.before.before.args in
     let i = c.before.loop.invariant in

@@ -8,9 +8,9 @@ use Rattle.folds.specs.Cell.{area}
 use Rattle.sizes.specs.Sizes as Sizes
 use Rattle.vector.specs.Vector.{Below}
 use Rattle.vector.specs.Laws.{length-select}
-use Rattle.slack_rows.specs.SlackRows.{keptColumns}
-use Rattle.slack_rows.specs.Laws.{kept-few, kept-below}
-use Rattle.iterate.specs.Problem.{firstSlackColumn}
+use Rattle.slack_rows.specs.SlackRows.{kept_columns}
+use Rattle.slack_rows.specs.Laws.{kept_few, kept_below}
+use Rattle.iterate.specs.Problem.{first_slack_column}
 use Rattle.free_problem.specs.Laws.{gather-from}
 use Rattle.free_problem.proofs.gather.Statement.{statement}
 use Rattle.free_problem.proofs.gather.Tie as tie
@@ -57,7 +57,7 @@ abbrev columns : tie.Start → List ℕ
 columns c =
     let s = c.args in
     let k = s.counts in
-    keptColumns s.e.now k.n k.m s.solved.now s.slacks.now k.originals (firstSlackColumn k.originals k.n k.m)
+    kept_columns s.e.now k.n k.m s.solved.now s.slacks.now k.originals (first_slack_column k.originals k.n k.m)
 
 abbrev written : tie.After-kept-columns → List ℕ
 written c = c.kept-columns.new.1.1.1.1.1.1.1.0
@@ -69,10 +69,10 @@ listed : (c : tie.After-kept-columns) → take c.kept-columns.result (written c)
 listed c = taken-over _ _ (sym (counted c)) c.kept-columns.ensures.1
 
 few : (c : tie.After-kept-columns) → c.kept-columns.result ≤ (start c).args.counts.m
-few c = rw (counted c) (kept-few _ _ _ _ _ _ _)
+few c = rw (counted c) (kept_few _ _ _ _ _ _ _)
 
 below : (c : tie.After-kept-columns) → Below c.kept-columns.result (take c.kept-columns.result (written c)) (start c).args.counts.m
-below c = rw (listed c, counted c) (kept-below _ _ _ _ _ _ _)
+below c = rw (listed c, counted c) (kept_below _ _ _ _ _ _ _)
 
 -- ---- what each list that is lent in part holds
 solved-few : (c : tie.Start) → length c.args.solved.now ≤ Sizes.originals
@@ -102,18 +102,18 @@ submatrix-requires : tie.Need-submatrix-requires
 submatrix-requires c κs =
     let k = c.before.before.before.before in
     let p = (start k).requires in (
-      p.0.e-holds,
+      p.0.e_holds,
       p.2.below,
-      rw (listed k) (kept-below _ _ _ _ _ _ _),
+      rw (listed k) (kept_below _ _ _ _ _ _ _),
       le_trans (area p.4 (le_refl _)) p.7,
-      le_trans (area p.4 (rw (listed k) (kept-few _ _ _ _ _ _ _))) p.9,
+      le_trans (area p.4 (rw (listed k) (kept_few _ _ _ _ _ _ _))) p.9,
     )
 
 submatrix-requires-2 : tie.Need-submatrix-requires-2
 submatrix-requires-2 c κs =
     let e = c.before.before.before.before.before.before in
     let p = (start (kept_at e)).requires in (
-      p.0.q-holds,
+      p.0.q_holds,
       p.2.below,
       p.2.below,
       rw e.submatrix.auto.1.1.1.1.1.0 (le_trans (area p.4 (le_refl _)) p.6),
@@ -123,7 +123,7 @@ submatrix-requires-2 c κs =
 linear-requires : tie.Need-linear-requires
 linear-requires c κs =
     let s = start_of c.before.before.before.before.before in
-    let p = s.pre in (p.0.c-holds, solved-few s, p.2.below, p.5, solved-few s)
+    let p = s.pre in (p.0.c_holds, solved-few s, p.2.below, p.5, solved-few s)
 
 gradient-requires : tie.Need-gradient-requires
 gradient-requires c κs =
@@ -138,7 +138,7 @@ gradient-requires c κs =
 
 residuals-at-requires : tie.Need-residuals-at-requires
 residuals-at-requires c κs =
-    let p = (start-at (linear-at c.before.before)).requires in (p.0.columns, p.0.e-holds, p.0.b-holds, p.1, p.0.columns)
+    let p = (start-at (linear-at c.before.before)).requires in (p.0.columns, p.0.e_holds, p.0.b_holds, p.1, p.0.columns)
 
 select-requires : tie.Need-select-requires
 select-requires c κs =
@@ -176,8 +176,8 @@ returns c =
       record {
         few = solved-few (start k);
         columns = (start k).pre.0.columns;
-        kept-few = few k;
-        kept-below = below k;
+        kept_few = few k;
+        kept_below = below k;
       },
     )
 

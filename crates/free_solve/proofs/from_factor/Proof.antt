@@ -1,12 +1,12 @@
 use Rattle.folds.specs.Kit.{kit, pick}
-use Rattle.factoring.specs.Laws.{some-listed, none-listed}
+use Rattle.factoring.specs.Laws.{some_listed, none_listed}
 use Rattle.range_space.specs.Laws.{found-is}
-use Rattle.free_solve.specs.FreeSolve.{fromFactor}
+use Rattle.free_solve.specs.FreeSolve.{from_factor}
 use Rattle.free_solve.proofs.from_factor.Statement.{statement}
 use Rattle.free_solve.proofs.from_factor.Tie as tie
 
 pub from-factor-spec : {M : Type 1} → statement M
-unfolding fromFactor pick
+unfolding from_factor pick
 from-factor-spec =
     tie.close
     (tie.spec
@@ -18,5 +18,5 @@ from-factor-spec =
     (λ c. search kit)  -- same-length-3
     (λ c. search kit)  -- same-length-4
     (λ c held. let s = c.before.before.before.before.before.before.before.before in
-    rw (some-listed held s.before.before.before.before.before.if1.true) s.solve-factored.ensures)  -- returns
-    (λ c held. rw (none-listed held c.if1.false) (found-is _ _ _)))  -- returns-2
+    rw (some_listed held s.before.before.before.before.before.if1.true) s.solve-factored.ensures)  -- returns
+    (λ c held. rw (none_listed held c.if1.false) (found-is _ _ _)))  -- returns-2

@@ -3,7 +3,7 @@ use lib.Seq.{length-take-le}
 use Rattle.folds.specs.Tab.{taken-over}
 use Rattle.sizes.specs.Sizes as Sizes
 use Rattle.vector.specs.Laws.{length-copy, copy-all}
-use Rattle.solution.specs.Laws.{solution-answer}
+use Rattle.solution.specs.Laws.{solution_answer}
 use Rattle.free_solve.proofs.noisy.Statement.{statement}
 use Rattle.free_solve.proofs.noisy.Tie as tie
 
@@ -33,7 +33,7 @@ returns c =
     rw (
       taken-over _ _ (length-copy _ _) f.copy.ensures ∙ copy-all _ _ (sym (slice-aggregate-copy f.before.before)),
       taken-over _ _ (length-copy _ _) c.before.before.copy2.ensures ∙ copy-all _ _ (sym (slice-aggregate-copy-2 c.before.before.before.before)),
-      ← solution-answer _ _ _,
+      ← solution_answer _ _ _,
     ) (solved f).solve-noisy-kkt.ensures
 
 pub noisy-spec : {M : Type 1} → statement M

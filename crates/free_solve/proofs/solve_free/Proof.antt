@@ -3,7 +3,7 @@ use native.Mathlib.Nat.{le_refl, le_trans}
 use lib.Seq.{length-take-le}
 use Rattle.folds.specs.Cell.{area}
 use Rattle.sizes.specs.Sizes as Sizes
-use Rattle.variable_set.specs.Laws.{listed-few}
+use Rattle.variable_set.specs.Laws.{listed_few}
 use Rattle.free_problem.specs.Laws.{parts}
 use Rattle.free_solve.specs.Laws.{free-system, free-from, regular-from}
 use Rattle.free_solve.proofs.solve_free.Statement.{statement}
@@ -25,7 +25,7 @@ held c =
     let p = c.requires.1 in omega arith
 
 listed : (c : tie.Start) → length c.args.solved.now ≤ c.args.counts.originals
-listed c = listed-few c.args.counts.originals c.args.solved.now c.requires.0.rises
+listed c = listed_few c.args.counts.originals c.args.solved.now c.requires.0.rises
 
 solve-updated-requires : tie.Need-solve-updated-requires
 solve-updated-requires c κs =
@@ -36,14 +36,14 @@ solve-updated-requires c κs =
     let l = p.1 in (
       record {
         few = l.few;
-        columns = le_trans l.kept-few l.columns;
-        k-holds = rw (length-take-le _ _ p.2) (le_refl _);
-        c-holds = rw (length-take-le _ _ (held s).0) (le_refl _);
-        e-holds = rw (length-take-le _ _ p.3) (le_refl _);
-        b-holds = rw (length-take-le _ _ (held s).1) (le_refl _);
+        columns = le_trans l.kept_few l.columns;
+        k_holds = rw (length-take-le _ _ p.2) (le_refl _);
+        c_holds = rw (length-take-le _ _ (held s).0) (le_refl _);
+        e_holds = rw (length-take-le _ _ p.3) (le_refl _);
+        b_holds = rw (length-take-le _ _ (held s).1) (le_refl _);
       },
       regular-from _ a.block.few _ _ _ a.rises _ _ a.good _ u.updated.ensures.0
-          (omega (arith, area (listed s) (listed s), a.l-holds, u.updated.kept.1.1.1.1.1.0)),
+          (omega (arith, area (listed s) (listed s), a.l_holds, u.updated.kept.1.1.1.1.1.0)),
       rw u.updated.kept.1.1.1.1.1.1.0 p.4,
       p.5,
       p.6,
@@ -57,7 +57,7 @@ returns c =
     let s = start u in
     let g = u.updated.ensures in
     let e = a.solve-updated.ensures in
-    (free-from _ _ _ _ _ _ g.0 (free-system _ _ _ _ _ (held s).2) (parts _ _ _ _ _).noise-is e.0, e.1 _ g.1)
+    (free-from _ _ _ _ _ _ g.0 (free-system _ _ _ _ _ (held s).2) (parts _ _ _ _ _).noise_is e.0, e.1 _ g.1)
 
 pub solve-free-spec : {M : Type 1} → statement M
 solve-free-spec =

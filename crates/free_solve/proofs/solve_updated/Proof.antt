@@ -1,6 +1,6 @@
 use Rattle.folds.specs.Kit.{needs}
 use Rattle.factoring.specs.Laws.{good-reset}
-use Rattle.free_solve.specs.Laws.{after-found, after-missed}
+use Rattle.free_solve.specs.Laws.{after-found, after_missed}
 use Rattle.free_solve.proofs.solve_updated.Statement.{statement}
 use Rattle.free_solve.proofs.solve_updated.Tie as tie
 
@@ -12,7 +12,7 @@ returns-2 c =
     let s = c.before.before.before.before.before in
     let t = s.before.before.before in
     let d = c.dropped.ensures in (
-      after-missed _ _ _ _ _ _ _ ((asked t.before).from-factor.ensures _) _ _ _ _ t.if1.false s.noisy.ensures d,
+      after_missed _ _ _ _ _ _ _ ((asked t.before).from-factor.ensures _) _ _ _ _ t.if1.false s.noisy.ensures d,
       λ o g. good-reset o _ _ _ d,
     )
 

@@ -1,7 +1,7 @@
 use Rattle.folds.specs.Kit.{◌≡◌, true, ◌-◌, ◌≤◌, all, alls, needs}
 use lib.Ieee.{eq}
 use Rattle.arith.specs.Float.{f0, at}
-use Rattle.free_step.specs.FreeStep.{allZero}
+use Rattle.free_step.specs.FreeStep.{all_zero}
 use Rattle.free_step.proofs.all_zero.Statement.{statement}
 use Rattle.free_step.proofs.all_zero.Tie as tie
 
@@ -14,7 +14,7 @@ decreases-loop a n i₀ i = n - i
 ruleset kit = (alls, needs)
 
 pub all-zero-spec : {M : Type 1} → statement M
-unfolding allZero
+unfolding all_zero
 all-zero-spec =
     tie.close
     (tie.spec invariant-loop decreases-loop

@@ -23,7 +23,7 @@ gradient-holds c =
     let e : length c.args.free.gradient ≡ Sizes.originals = search needs in omega (arith, c.requires.3.few)
 
 kept-holds : (c : tie.Start) → c.args.free.columns ≤ length c.args.free.kept
-kept-holds c = let e : length c.args.free.kept ≡ Sizes.columns = search needs in omega (arith, c.requires.3.kept-few, c.requires.3.columns)
+kept-holds c = let e : length c.args.free.kept ≡ Sizes.columns = search needs in omega (arith, c.requires.3.kept_few, c.requires.3.columns)
 
 slice-aggregate-all-zero : tie.Need-slice-aggregate-all-zero
 slice-aggregate-all-zero c = sym (length-take-le _ _ (c-holds (start c.before)))
@@ -34,9 +34,9 @@ returns c =
     let z = c.before.before in
     let s = start z.before.before in
     let a = s.args in
-    let g = parts (length a.solved.now) a.counts.m a.free a.q-free.now a.e-free.now in
+    let g = parts (length a.solved.now) a.counts.m a.free a.q_free_holds.now a.e_free_holds.now in
     let e = c.ended.ensures in (
-      passed-singular _ _ c.ended.result e.0 ∙ rw (g.linear-is, ← z.all-zero.ensures, c.before.if1.true),
+      passed-singular _ _ c.ended.result e.0 ∙ rw (g.linear_is, ← z.all-zero.ensures, c.before.if1.true),
       rw e.1 s.pre.1,
     )
 
@@ -53,7 +53,7 @@ descent-ray-requires : tie.Need-descent-ray-requires
 descent-ray-requires c κs =
     let l = (left_at c.before.before.before).requires.3 in (
       l.few,
-      le_trans l.kept-few l.columns,
+      le_trans l.kept_few l.columns,
       omega (arith, slice-aggregate-descent-ray c.before.before),
       omega (arith, slice-aggregate-descent-ray-2 c.before),
       omega (arith, slice-aggregate-descent-ray-3 c),
@@ -69,16 +69,16 @@ returns-2 c =
     let l = d.before.before.before.before in
     let s = left_at l in
     let a = s.args in
-    let g = parts (length a.solved.now) a.counts.m a.free a.q-free.now a.e-free.now in (
+    let g = parts (length a.solved.now) a.counts.m a.free a.q_free_holds.now a.e_free_holds.now in (
       rw (
-        g.linear-is,
+        g.linear_is,
         ← l.before.all-zero.ensures,
         l.if1.false,
-        g.kept-are,
+        g.kept_are,
         length-take-le _ _ (kept-holds s),
-        g.square-is,
-        g.gradient-is,
-        g.entries-are,
+        g.square_is,
+        g.gradient_is,
+        g.entries_are,
         ← d.descent-ray.ensures,
       )
           c.on-ray.ensures.0,

@@ -1,6 +1,6 @@
 use Rattle.folds.specs.Kit.{length, needs}
-use Rattle.solution.specs.Laws.{answer-solved, answer-noOptimum, answer-nonFinite, answer-singular}
-use Rattle.iterate.specs.Laws.{passed-nonFinite, passed-singular}
+use Rattle.solution.specs.Laws.{answer-solved, answer-no_optimum, answer-non_finite, answer-singular}
+use Rattle.iterate.specs.Laws.{passed-non_finite, passed-singular}
 use Rattle.free_problem.specs.Laws.{parts}
 use Rattle.free_step.specs.FreeStep.{step}
 use Rattle.free_step.proofs.step.Statement.{statement}
@@ -20,20 +20,20 @@ unfolding step
 returns c =
     let a = (start c.before.before.before).args in
     let e = c.to-minimum.ensures in
-    let g = parts (length a.solved.now) a.counts.m a.free a.q-free.now a.e-free.now in
-    (rw (c.before.enum_told.given.1, answer-solved, g.kept-are, g.residuals-are) e.0, e.1)
+    let g = parts (length a.solved.now) a.counts.m a.free a.q_free_holds.now a.e_free_holds.now in
+    (rw (c.before.enum_told.given.1, answer-solved, g.kept_are, g.residuals_are) e.0, e.1)
 
 returns-2 : tie.Need-returns-2
 unfolding step
 returns-2 c =
-    let e = c.descend.ensures in (rw (c.before.enum-told2.given.1, answer-noOptimum) e.0, e.1)
+    let e = c.descend.ensures in (rw (c.before.enum-told2.given.1, answer-no_optimum) e.0, e.1)
 
 returns-3 : tie.Need-returns-3
 unfolding step
 returns-3 c =
     let s = start c.before.before.before in
     let e = c.ended.ensures in (
-      rw (c.before.enum-told3.given.1, answer-nonFinite) (passed-nonFinite _ _ c.ended.result e.0),
+      rw (c.before.enum-told3.given.1, answer-non_finite) (passed-non_finite _ _ c.ended.result e.0),
       rw e.1 s.pre.2,
     )
 

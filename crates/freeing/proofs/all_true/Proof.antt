@@ -1,5 +1,5 @@
 use Rattle.folds.specs.Kit.{◌≡◌, true, false, ◌-◌, ◌≤◌, get_or, all, alls, needs}
-use Rattle.freeing.specs.Freeing.{allTrue}
+use Rattle.freeing.specs.Freeing.{all_true}
 use Rattle.freeing.proofs.all_true.Statement.{statement}
 use Rattle.freeing.proofs.all_true.Tie as tie
 
@@ -12,7 +12,7 @@ decreases-loop a n i₀ i = n - i
 ruleset kit = (alls, needs)
 
 pub all-true-spec : {M : Type 1} → statement M
-unfolding allTrue
+unfolding all_true
 all-true-spec =
     tie.close
     (tie.spec invariant-loop decreases-loop

@@ -1,9 +1,9 @@
-use Rattle.freeing.specs.Freeing.{freeEverything}
+use Rattle.freeing.specs.Freeing.{free_everything}
 use Rattle.freeing.proofs.free_everything.Statement.{statement}
 use Rattle.freeing.proofs.free_everything.Tie as tie
 
 pub free-everything-spec : {M : Type 1} → statement M
-unfolding freeEverything
+unfolding free_everything
 free-everything-spec =
     tie.close
     (tie.spec

@@ -1,10 +1,10 @@
 use Rattle.folds.specs.Kit.{both, kit}
-use Rattle.freeing.specs.Freeing.{freedHere}
+use Rattle.freeing.specs.Freeing.{freed_here}
 use Rattle.freeing.proofs.freed_here.Statement.{statement}
 use Rattle.freeing.proofs.freed_here.Tie as tie
 
 pub freed-here-spec : {M : Type 1} → statement M
-unfolding freedHere both
+unfolding freed_here both
 freed-here-spec =
     tie.close
     (tie.spec

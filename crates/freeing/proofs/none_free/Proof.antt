@@ -1,10 +1,10 @@
 use Rattle.folds.specs.Kit.{refl}
-use Rattle.freeing.specs.Freeing.{noneFree}
+use Rattle.freeing.specs.Freeing.{none_free}
 use Rattle.freeing.proofs.none_free.Statement.{statement}
 use Rattle.freeing.proofs.none_free.Tie as tie
 
 pub none-free-spec : {M : Type 1} → statement M
-unfolding noneFree
+unfolding none_free
 none-free-spec =
     tie.close
     (tie.spec

@@ -2,10 +2,10 @@ use Rattle.folds.specs.Kit.{◌≡◌, Bool, true, false, ◌≤◌, sym, ◌∙
 use lib.ListN.{take}
 use lib.Seq.{length-take-le}
 use Rattle.sizes.specs.Sizes as Sizes
-use Rattle.vector.specs.Laws.{take-zeros}
-use Rattle.iterate.specs.Laws.{passed-more, passed-optimal, passed-notConverged}
-use Rattle.freeing.specs.Freeing.{allTrue, freedHere, withoutFree}
-use Rattle.freeing.specs.Laws.{everything-consistent}
+use Rattle.vector.specs.Laws.{take_zeros}
+use Rattle.iterate.specs.Laws.{passed-more, passed-optimal, passed-not_converged}
+use Rattle.freeing.specs.Freeing.{all_true, freed_here, without_free}
+use Rattle.freeing.specs.Laws.{everything_consistent}
 use Rattle.freeing.proofs.without_free.Statement.{statement}
 use Rattle.freeing.proofs.without_free.Tie as tie
 
@@ -16,13 +16,13 @@ freed-at-holds : (c : tie.Start) → c.args.n ≤ length c.args.iterate.freed_at
 freed-at-holds c = let e : length c.args.iterate.freed_at ≡ Sizes.variables = search needs in omega arith
 
 returns : tie.Need-returns
-unfolding withoutFree pick
+unfolding without_free pick
 returns c =
     let t = c.before.before in
     let s = t.before.before in
     let e = c.ended.ensures in
-    let fixed : allTrue s.args.originals s.args.fixed.now ≡ true = sym t.all_true.ensures ∙ c.before.if1.true in (
-      λ m h. passed-optimal s.args.n m c.ended.result e.0 ∙ rw (e.1, e.2, take-zeros m Sizes.columns h, fixed),
+    let fixed : all_true s.args.originals s.args.fixed.now ≡ true = sym t.all_true.ensures ∙ c.before.if1.true in (
+      λ m h. passed-optimal s.args.n m c.ended.result e.0 ∙ rw (e.1, e.2, take_zeros m Sizes.columns h, fixed),
       rw e.1 s.requires.4,
     )
 
@@ -36,22 +36,22 @@ freed-here-requires : tie.Need-freed-here-requires
 freed-here-requires c κs = (omega (arith, slice-aggregate-freed-here c.before), omega (arith, slice-aggregate-freed-here-2 c))
 
 -- some original is not fixed
-not-fixed : (c : tie.Else1) → let s = c.before.before.before.args in allTrue s.originals s.fixed.now ≡ false
+not-fixed : (c : tie.Else1) → let s = c.before.before.before.args in all_true s.originals s.fixed.now ≡ false
 not-fixed c = sym c.before.all_true.ensures ∙ c.if1.false
 
 -- whether every variable was freed before at this point
 abbrev here : tie.Start → Bool
-here c = let i = c.args.iterate in freedHere c.args.n i.freed (take c.args.n i.freed_at) (take c.args.n i.board.x)
+here c = let i = c.args.iterate in freed_here c.args.n i.freed (take c.args.n i.freed_at) (take c.args.n i.board.x)
 
 returns-2 : tie.Need-returns-2
-unfolding withoutFree pick
+unfolding without_free pick
 returns-2 c =
     let f = c.before.before in
     let l = f.before.before.before.before.before.before in
     let s = l.before.before.before in
     let e = c.ended2.ensures in
     let freed : here s ≡ true = sym f.freed-here.ensures ∙ c.before.if2.true in (
-      λ m h. passed-notConverged s.args.n m c.ended2.result e.0 ∙ rw (not-fixed l, freed),
+      λ m h. passed-not_converged s.args.n m c.ended2.result e.0 ∙ rw (not-fixed l, freed),
       rw e.1 s.requires.4,
     )
 
@@ -61,7 +61,7 @@ free-everything-requires c κs =
     (p.1, p.2, p.3, p.4.placed)
 
 returns-3 : tie.Need-returns-3
-unfolding withoutFree pick
+unfolding without_free pick
 returns-3 c =
     let f = c.before.before.before in
     let l = f.before.before.before.before.before.before in
@@ -70,7 +70,7 @@ returns-3 c =
     let i = e.1 ∙ c.before.free-everything.ensures in
     let not-freed : here s ≡ false = sym f.freed-here.ensures ∙ c.before.before.if2.false in (
       λ m h. passed-more s.args.n m c.ended3.result e.0 ∙ rw (i, not-fixed l, not-freed),
-      rw i (everything-consistent s.args.n s.args.segments s.args.fixed.now s.args.iterate s.requires.3 s.requires.4),
+      rw i (everything_consistent s.args.n s.args.segments s.args.fixed.now s.args.iterate s.requires.3 s.requires.4),
     )
 
 pub without-free-spec : {M : Type 1} → statement M

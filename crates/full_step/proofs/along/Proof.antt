@@ -6,7 +6,7 @@ use Rattle.sizes.specs.Sizes as Sizes
 use Rattle.vector.specs.Laws.{length-select}
 use Rattle.free_list.specs.Laws.{listed_below, listed}
 use Rattle.full_step.specs.FullStep.{along}
-use Rattle.full_step.specs.Laws.{listed-few, listed-entries}
+use Rattle.full_step.specs.Laws.{listed_few, listed_entries}
 use Rattle.full_step.proofs.along.Statement.{statement}
 use Rattle.full_step.proofs.along.Tie as tie
 
@@ -17,7 +17,7 @@ x-holds : (c : tie.Start) → c.args.n ≤ length c.args.iterate.board.x
 x-holds c = let e : length c.args.iterate.board.x ≡ Sizes.variables = search needs in omega arith
 
 few : (c : tie.Start) → length c.args.indices.now ≤ Sizes.variables
-few c = omega (arith, listed-few c.args.n c.args.iterate.board.state c.requires.3, c.requires.0)
+few c = omega (arith, listed_few c.args.n c.args.iterate.board.state c.requires.3, c.requires.0)
 
 slice-aggregate-select : tie.Need-slice-aggregate-select
 slice-aggregate-select c = sym (length-take-le _ _ (x-holds c.before.before.before.before.before.before.before))
@@ -43,7 +43,7 @@ ray-step-requires c κs =
     let a = s.args in
     let p = s.pre in (
       listed a.n a.iterate.board.state p.3 a.segments p.0 p.1 p.2,
-      listed-entries a.n a.iterate.board.state p.3 a.segments _ _ p.5 (omega (arith, slice-aggregate-ray-step c)) p.4,
+      listed_entries a.n a.iterate.board.state p.3 a.segments _ _ p.5 (omega (arith, slice-aggregate-ray-step c)) p.4,
     )
 
 returns : tie.Need-returns
@@ -53,7 +53,7 @@ returns c =
     let s = start x.before in
     let a = s.args in
     let p = s.pre in (
-      λ m. rw (← p.5.lower-is, ← p.5.upper_is, ← p.3, ← taken-over _ _ (length-select _ _ _) x.select.ensures) (c.ray-step.ensures.0 a.n m),
+      λ m. rw (← p.5.lower_is, ← p.5.upper_is, ← p.3, ← taken-over _ _ (length-select _ _ _) x.select.ensures) (c.ray-step.ensures.0 a.n m),
       c.ray-step.ensures.1 a.n (listed_below a.n a.iterate.board.state p.3) p.2,
     )
 

@@ -1,7 +1,7 @@
 use Rattle.folds.specs.Kit.{sym, ◌∙◌, length, needs}
 use Rattle.step_length.specs.Laws.{ratio-below}
 use Rattle.iterate.specs.Laws.{passed-unbounded}
-use Rattle.full_step.specs.FullStep.{atRatio, rayStep}
+use Rattle.full_step.specs.FullStep.{at_ratio, ray_step}
 use Rattle.full_step.proofs.ray_step.Statement.{statement}
 use Rattle.full_step.proofs.ray_step.Tie as tie
 
@@ -9,7 +9,7 @@ ratio-test-requires : tie.Need-ratio-test-requires
 ratio-test-requires c κs = c.before.before.before.before.before.requires.1
 
 returns : tie.Need-returns
-unfolding rayStep atRatio
+unfolding ray_step at_ratio
 returns c =
     let r = c.before.before.before in
     let e = c.ended.ensures in (
@@ -31,7 +31,7 @@ blocked-pass-requires c κs =
     )
 
 returns-2 : tie.Need-returns-2
-unfolding rayStep atRatio
+unfolding ray_step at_ratio
 returns-2 c =
     let h = c.before.before in (
       λ n m. rw (← h.before.before.ratio-test.ensures, h.hit.given.1) (c.blocked-pass.ensures.0 n m),

@@ -9,8 +9,8 @@ use Rattle.free_list.specs.Laws.{listed_below, listed}
 use Rattle.step_length.specs.Laws.{passed-below}
 use Rattle.blocking.specs.declared.Board.{Board}
 use Rattle.advance.specs.Laws.{settled-placed}
-use Rattle.full_step.specs.FullStep.{atBlocking, stepped}
-use Rattle.full_step.specs.Laws.{listed-few}
+use Rattle.full_step.specs.FullStep.{at_blocking, stepped}
+use Rattle.full_step.specs.Laws.{listed_few}
 use Rattle.full_step.proofs.stepped.Statement.{statement}
 use Rattle.full_step.proofs.stepped.Tie as tie
 
@@ -18,7 +18,7 @@ abbrev start : tie.After-first-passed → tie.Start
 start c = c.before.before.before.before.before.before.before.before.before.before
 
 few : (c : tie.Start) → length c.args.indices.now ≤ Sizes.variables
-few c = omega (arith, listed-few c.args.counts.n c.args.iterate.board.state c.requires.4, c.requires.0.variables)
+few c = omega (arith, listed_few c.args.counts.n c.args.iterate.board.state c.requires.4, c.requires.0.variables)
 
 first-passed-requires : tie.Need-first-passed-requires
 first-passed-requires c κs = c.before.before.before.before.before.before.before.before.before.requires.5
@@ -28,9 +28,9 @@ settled-requires c κs =
     let s = start c.before.before.before in
     let p = s.pre in (
       λ i h. omega (arith, listed_below s.args.counts.n s.args.iterate.board.state p.4 i h, p.0.variables),
-      p.5.d-holds,
-      p.5.lower-holds,
-      p.5.upper-holds,
+      p.5.d_holds,
+      p.5.lower_holds,
+      p.5.upper_holds,
     )
 
 decided-requires : tie.Need-decided-requires
@@ -47,7 +47,7 @@ decided-requires c κs =
     )
 
 returns : tie.Need-returns
-unfolding stepped atBlocking
+unfolding stepped at_blocking
 returns c =
     let t = c.before.before.before in (
       rw (← t.before.before.first-passed.ensures, t.enum_told.given.1, ← c.before.settled.ensures) c.decided.ensures.0,
@@ -57,7 +57,7 @@ returns c =
 sub-requires : tie.Need-sub-requires
 sub-requires c κs =
     let s = start c.before.before.before.before in
-    let h = s.pre.5 in (omega (arith, h.x-holds, h.d-holds), omega (arith, h.x-holds, h.d-holds), omega (arith, few s))
+    let h = s.pre.5 in (omega (arith, h.x_holds, h.d_holds), omega (arith, h.x_holds, h.d_holds), omega (arith, few s))
 
 direction-holds : tie.Need-array-share-prefix-direction
 direction-holds c = omega (arith, few (start c.before.before.before.before.before.before))
@@ -75,17 +75,17 @@ blocked-pass-requires c κs =
     let v = h.hit.given in (
       listed a.counts.n a.iterate.board.state p.4 a.segments p.0.variables p.1 p.2.placed,
       record {
-        x-holds = p.5.x-holds;
-        d-holds = omega (arith, slice-aggregate-blocked-pass c);
-        lower-holds = p.5.lower-holds;
-        upper-holds = p.5.upper-holds;
+        x_holds = p.5.x_holds;
+        d_holds = omega (arith, slice-aggregate-blocked-pass c);
+        lower_holds = p.5.lower_holds;
+        upper_holds = p.5.upper_holds;
       },
       passed-below (length a.indices.now) a.x-free.now a.target.now a.lower.now a.upper.now v.0.0 v.0.1.0
           v.0.1.1.0 a.tolerance (sym v.1 ∙ b.first-passed.ensures),
     )
 
 returns-2 : tie.Need-returns-2
-unfolding stepped atBlocking
+unfolding stepped at_blocking
 returns-2 c =
     let d = c.before.before.before in
     let h = d.before.before.before in

@@ -6,7 +6,7 @@ use Rattle.sizes.specs.Sizes as Sizes
 use Rattle.vector.specs.Laws.{length-add, length-select}
 use Rattle.free_list.specs.Laws.{listed_below}
 use Rattle.full_step.specs.FullStep.{toward}
-use Rattle.full_step.specs.Laws.{listed-few, listed-entries}
+use Rattle.full_step.specs.Laws.{listed_few, listed_entries}
 use Rattle.full_step.proofs.toward.Statement.{statement}
 use Rattle.full_step.proofs.toward.Tie as tie
 
@@ -23,7 +23,7 @@ x-holds : (c : tie.Start) → c.args.counts.n ≤ length c.args.iterate.board.x
 x-holds c = let e : length c.args.iterate.board.x ≡ Sizes.variables = search needs in omega arith
 
 few : (c : tie.Start) → length c.args.indices.now ≤ Sizes.variables
-few c = omega (arith, listed-few c.args.counts.n c.args.iterate.board.state c.requires.4, c.requires.0.variables)
+few c = omega (arith, listed_few c.args.counts.n c.args.iterate.board.state c.requires.4, c.requires.0.variables)
 
 slice-aggregate-select : tie.Need-slice-aggregate-select
 slice-aggregate-select c =
@@ -82,7 +82,7 @@ stepped-requires c κs =
       p.2,
       p.3,
       p.4,
-      listed-entries a.counts.n a.iterate.board.state p.4 a.segments _ _ p.7 (omega (arith, slice-aggregate-stepped c.before))
+      listed_entries a.counts.n a.iterate.board.state p.4 a.segments _ _ p.7 (omega (arith, slice-aggregate-stepped c.before))
           (omega (arith, slice-aggregate-stepped-2 c)),
     )
 
@@ -94,7 +94,7 @@ returns c =
     let x = selected a in
     let p = (start x.before).requires in (
       rw (
-        ← p.7.lower-is,
+        ← p.7.lower_is,
         ← p.7.upper_is,
         ← p.4,
         ← taken-over _ _ (length-select _ _ _) x.select.ensures,

@@ -9,20 +9,20 @@ use mir.Syntax.{w64}
 use mir.Val.{of_z}
 use Rattle.ints.specs.Held.{Held, read}
 use Rattle.block.specs.Block.{Block, Anchor, anchor}
-use Rattle.block.specs.Gap.{price, coefOf}
-use Rattle.block.specs.Laws.{anchorPart-is}
-use Rattle.block.specs.Fits.{anchorParts-b}
+use Rattle.block.specs.Gap.{price, coef_of}
+use Rattle.block.specs.Laws.{anchor_part-is}
+use Rattle.block.specs.Fits.{anchor_parts_b}
 use Rattle.format.specs.Structs.{block_of}
-use Rattle.format.specs.Entries.{anchors-length, anchor-is, anchor-in}
-use Rattle.gap.specs.Prices.{anchorPrices}
-use Rattle.gap.specs.Input.{anchor-paid, list-parts}
-use Rattle.gap.specs.Words.{Within, Totals, totals-none, totals-turn, totals-end, totals-small}
+use Rattle.format.specs.Entries.{anchors-length, anchor-is, anchor_in}
+use Rattle.gap.specs.Prices.{anchor_prices}
+use Rattle.gap.specs.Input.{anchor_paid, list-parts}
+use Rattle.gap.specs.Words.{Within, Totals, totals_none, totals_turn, totals_end, totals_small}
 use Rattle.gap.proofs.add_anchors.Statement.{statement}
 use Rattle.gap.proofs.add_anchors.Tie as tie
 
 -- anchor k's part for word i
 abbrev part : Block → (prices : List ℤ) (i k : ℕ) → ℤ
-part b p i k = price (anchorPrices b p) k *ℤ coefOf i (anchor b k).list
+part b p i k = price (anchor_prices b p) k *ℤ coef_of i (anchor b k).list
 
 abbrev invariant-loop : tie.invariant-loop
 invariant-loop prices b sums₀ words n k₀ sums k = (k ≤ b.anchors) × Totals b.words sums₀ k (part (block_of b) prices) sums
@@ -42,35 +42,35 @@ module _ (c : tie.After-add-price-arg invariant-loop decreases-loop) where
   h = c.before.before.before.loop-test.true
 
   paid : Held w64 (of_z w64 (price a.args.prices.now t.loop.k))
-      (price (anchorPrices (block_of a.args.t2) a.args.prices.now) t.loop.k) 4294967296
-  paid = anchor-paid a.pre.0 h
+      (price (anchor_prices (block_of a.args.t2) a.args.prices.now) t.loop.k) 4294967296
+  paid = anchor_paid a.pre.0 h
 
   so_far : Within a.args.t2.words t.loop.sums 5497558138880
   so_far =
-      totals-small t.loop.inv.1 a.pre.1
-      (λ i. anchorParts-b a.pre.0.ranged (list-parts a.pre.0) i _
+      totals_small t.loop.inv.1 a.pre.1
+      (λ i. anchor_parts_b a.pre.0.ranged (list-parts a.pre.0) i _
       (omega (arith, t.loop.inv.0, anchors-length a.pre.0.sound))) (lit≤ tt)
 
 pub add-anchors-spec : {M : Type 1} → statement M
 add-anchors-spec =
     tie.close
     (tie.spec invariant-loop decreases-loop
-    (λ c. (search rules, totals-none _ _ _))
+    (λ c. (search rules, totals_none _ _ _))
     (λ c. search rules)
     (λ c. search rules)
     (λ c. search rules)
     (λ c. omega (arith, c.before.before.loop-test.true, c.before.before.before.before.requires.0.enough))
     (λ c κs.
     let L = (a c).requires.0 in
-    (L.sound.anchor-list _ (h c), ((anchor-in L.sound L.ranged (h c)).list.short, (read (paid c), L.sound.words, so_far c))))
+    (L.sound.anchor_list _ (h c), ((anchor_in L.sound L.ranged (h c)).list.short, (read (paid c), L.sound.words, so_far c))))
     (λ c. search rules)
     (λ c. search rules)
     (λ c.
     let e = c.before in (
       search rules,
-      totals-turn (t e).loop.invariant.1 c.add-price.ensures
-          (λ i. ap₂ (λ (q : ℤ) (m : Anchor). q *ℤ coefOf i m.list) (paid e).is (sym (anchor-is (a e).requires.0.sound (h e)))),
+      totals_turn (t e).loop.invariant.1 c.add-price.ensures
+          (λ i. ap₂ (λ (q : ℤ) (m : Anchor). q *ℤ coef_of i m.list) (paid e).is (sym (anchor-is (a e).requires.0.sound (h e)))),
     ))
     (λ c.
     let n = anchors-length c.before.before.requires.0.sound in
-    totals-end c.before.loop.invariant.1 _ (omega arith) (omega arith) (anchorPart-is _ _)))
+    totals_end c.before.loop.invariant.1 _ (omega arith) (omega arith) (anchor_part-is _ _)))

@@ -9,20 +9,20 @@ use mir.Syntax.{w64}
 use mir.Val.{of_z}
 use Rattle.ints.specs.Held.{Held, read}
 use Rattle.block.specs.Block.{Block, Span, span}
-use Rattle.block.specs.Gap.{price, coefOf}
-use Rattle.block.specs.Laws.{spanPart-is}
-use Rattle.block.specs.Fits.{spanParts-b}
+use Rattle.block.specs.Gap.{price, coef_of}
+use Rattle.block.specs.Laws.{span_part-is}
+use Rattle.block.specs.Fits.{span_parts_b}
 use Rattle.format.specs.Structs.{block_of}
-use Rattle.format.specs.Entries.{spans-length, span-is, span-in}
-use Rattle.gap.specs.Prices.{spanPrices}
-use Rattle.gap.specs.Input.{span-paid, list-parts}
-use Rattle.gap.specs.Words.{Within, Totals, totals-none, totals-turn, totals-end, totals-small}
+use Rattle.format.specs.Entries.{spans-length, span-is, span_in}
+use Rattle.gap.specs.Prices.{span_prices}
+use Rattle.gap.specs.Input.{span_paid, list-parts}
+use Rattle.gap.specs.Words.{Within, Totals, totals_none, totals_turn, totals_end, totals_small}
 use Rattle.gap.proofs.add_spans.Statement.{statement}
 use Rattle.gap.proofs.add_spans.Tie as tie
 
 -- span k's part for word i
 abbrev part : Block → (prices : List ℤ) (i k : ℕ) → ℤ
-part b p i k = price (spanPrices b p) k *ℤ coefOf i (span b k).list
+part b p i k = price (span_prices b p) k *ℤ coef_of i (span b k).list
 
 abbrev invariant-loop : tie.invariant-loop
 invariant-loop prices b sums₀ words a n k₀ sums k = (k ≤ b.spans) × Totals b.words sums₀ k (part (block_of b) prices) sums
@@ -42,20 +42,20 @@ module _ (c : tie.After-add-price-arg invariant-loop decreases-loop) where
   h = c.before.before.before.loop-test.true
 
   paid : Held w64 (of_z w64 (price a.args.prices.now (a.args.t2.anchors + t.loop.k)))
-      (price (spanPrices (block_of a.args.t2) a.args.prices.now) t.loop.k) 4294967296
-  paid = span-paid a.pre.0 h
+      (price (span_prices (block_of a.args.t2) a.args.prices.now) t.loop.k) 4294967296
+  paid = span_paid a.pre.0 h
 
   so_far : Within a.args.t2.words t.loop.sums 5497558138880
   so_far =
-      totals-small t.loop.inv.1 a.pre.1
-      (λ i. spanParts-b a.pre.0.ranged (list-parts a.pre.0) i _
+      totals_small t.loop.inv.1 a.pre.1
+      (λ i. span_parts_b a.pre.0.ranged (list-parts a.pre.0) i _
       (omega (arith, t.loop.inv.0, spans-length a.pre.0.sound))) (lit≤ tt)
 
 pub add-spans-spec : {M : Type 1} → statement M
 add-spans-spec =
     tie.close
     (tie.spec invariant-loop decreases-loop
-    (λ c. (search rules, totals-none _ _ _))
+    (λ c. (search rules, totals_none _ _ _))
     (λ c. search rules)
     (λ c. search rules)
     (λ c. search rules)
@@ -63,15 +63,15 @@ add-spans-spec =
     (λ c. omega (arith, c.before.before.loop-test.true, c.before.before.before.before.requires.0.enough))
     (λ c κs.
     let L = (a c).requires.0 in
-    (L.sound.span-list _ (h c), ((span-in L.sound L.ranged (h c)).list.short, (read (paid c), L.sound.words, so_far c))))
+    (L.sound.span_list _ (h c), ((span_in L.sound L.ranged (h c)).list.short, (read (paid c), L.sound.words, so_far c))))
     (λ c. search rules)
     (λ c. search rules)
     (λ c.
     let e = c.before in (
       search rules,
-      totals-turn (t e).loop.invariant.1 c.add-price.ensures
-          (λ i. ap₂ (λ (q : ℤ) (m : Span). q *ℤ coefOf i m.list) (paid e).is (sym (span-is (a e).requires.0.sound (h e)))),
+      totals_turn (t e).loop.invariant.1 c.add-price.ensures
+          (λ i. ap₂ (λ (q : ℤ) (m : Span). q *ℤ coef_of i m.list) (paid e).is (sym (span-is (a e).requires.0.sound (h e)))),
     ))
     (λ c.
     let n = spans-length c.before.before.requires.0.sound in
-    totals-end c.before.loop.invariant.1 _ (omega arith) (omega arith) (spanPart-is _ _)))
+    totals_end c.before.loop.invariant.1 _ (omega arith) (omega arith) (span_part-is _ _)))

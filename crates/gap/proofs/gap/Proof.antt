@@ -5,21 +5,21 @@ use mir.Syntax.{w64}
 use mir.Val.{to_z, of_z}
 use Rattle.ints.specs.Bound.{sfits}
 use Rattle.ints.specs.Held.{Held, literal, called, also, cast, fits+, fits*, plus, by}
-use Rattle.block.specs.Gap.{wordGaps, values, ends}
+use Rattle.block.specs.Gap.{word_gaps, values, ends}
 use Rattle.block.specs.Laws.{gap_is}
-use Rattle.block.specs.Fits.{all-wordGaps-b, all-values-b, all-ends-b}
+use Rattle.block.specs.Fits.{all-word_gaps-b, all-values-b, all-ends-b}
 use Rattle.format.specs.Structs.{block_of}
 use Rattle.format.specs.Entries.{cap-is}
 use Rattle.exact.specs.Planned.{plan-timed}
-use Rattle.gap.specs.Prices.{anchorPrices, spanPrices, pricesWith}
-use Rattle.gap.specs.Input.{input-priced}
+use Rattle.gap.specs.Prices.{anchor_prices, span_prices, prices_with}
+use Rattle.gap.specs.Input.{input_priced}
 use Rattle.gap.proofs.gap.Statement.{statement}
 use Rattle.gap.proofs.gap.Tie as tie
 
 -- ---- the four totals
 module _ (a : tie.Start) where
   price : Held w64 a.args.cap (pos a.args.cap) 4294967296
-  price = cast w64 a.requires.cap-small tt
+  price = cast w64 a.requires.cap_small tt
 
   limit : Held w64 a.args.b.cap (pos a.args.b.cap) 8388608
   limit = cast w64 (subst (λ (n : ℕ). n ≤ 8388608) (cap-is a.args.b) a.pre.planned.ranged.cap) tt
@@ -33,25 +33,25 @@ module _ (c : tie.After-word-gaps) where
   s₁ = c.before.before
 
   W : Held w64 (of_z w64 c.word-gaps.result)
-      (wordGaps (block_of s₁.args.b) s₁.args.times.now (pricesWith (block_of s₁.args.b) s₁.args.prices.now s₁.args.cap))
+      (word_gaps (block_of s₁.args.b) s₁.args.times.now (prices_with (block_of s₁.args.b) s₁.args.prices.now s₁.args.cap))
       2089672426089611264
-  W = called w64 c.word-gaps.ensures (all-wordGaps-b s₁.pre.planned.ranged (input-priced s₁.pre) (plan-timed s₁.pre.planned)) tt
+  W = called w64 c.word-gaps.ensures (all-word_gaps-b s₁.pre.planned.ranged (input_priced s₁.pre) (plan-timed s₁.pre.planned)) tt
 
 module _ (c : tie.After-values) where
   abbrev s₂ : tie.Start
   s₂ = c.before.before.before
 
   A : Held w64 (of_z w64 c.values.result)
-      (values (block_of s₂.args.b) (anchorPrices (block_of s₂.args.b) s₂.args.prices.now)) 288230376151711744
-  A = called w64 c.values.ensures (all-values-b s₂.pre.planned.ranged (input-priced s₂.pre)) tt
+      (values (block_of s₂.args.b) (anchor_prices (block_of s₂.args.b) s₂.args.prices.now)) 288230376151711744
+  A = called w64 c.values.ensures (all-values-b s₂.pre.planned.ranged (input_priced s₂.pre)) tt
 
 module _ (c : tie.After-ends) where
   abbrev s₃ : tie.Start
   s₃ = c.before.before.before.before
 
   S : Held w64 (of_z w64 c.ends.result)
-      (ends (block_of s₃.args.b) (spanPrices (block_of s₃.args.b) s₃.args.prices.now)) 576460752303423488
-  S = called w64 c.ends.ensures (all-ends-b s₃.pre.planned.ranged (input-priced s₃.pre)) tt
+      (ends (block_of s₃.args.b) (span_prices (block_of s₃.args.b) s₃.args.prices.now)) 576460752303423488
+  S = called w64 c.ends.ensures (all-ends-b s₃.pre.planned.ranged (input_priced s₃.pre)) tt
 
 two : Held w64 2 (pos 2) 2
 two = literal w64 (pos 2) tt

@@ -6,7 +6,7 @@ use lib.IntN.{ℤ, pos}
 use mir.Syntax.{w64}
 use mir.Val.{to_z, of_z}
 use Rattle.ints.specs.Diff.{minℤ}
-use Rattle.ints.specs.Bound.{sfits, pos-b, min-b}
+use Rattle.ints.specs.Bound.{sfits, pos_b, min-b}
 use Rattle.ints.specs.Held.{Held, cell, called, cast, read}
 use Rattle.block.specs.Block.{Word}
 use Rattle.block.specs.Gap.{line}
@@ -24,7 +24,7 @@ at-time : (a : tie.Start) {r : ℤ} {u : ℕ} → u ≤ 262144 → r ≡ line (w
     → Held w64 (of_z w64 r) (line (word_of a.args.w) a.args.h a.args.cap (pos u)) 1443403714931458048
 at-time a {r} {u} b e =
     called w64 (e ∙ line_same (word_of a.args.w) a.args.cap (cell w64 a.requires.1.0 tt).is (cast w64 b tt).is)
-    (line-b a.requires.0 (pos-b b) a.args.h a.args.cap a.requires.1.0 a.requires.1.1) tt
+    (line-b a.requires.0 (pos_b b) a.args.h a.args.cap a.requires.1.0 a.requires.1.1) tt
 
 -- the smaller of the line at both ends
 module _ (c : tie.After-smaller) where
@@ -67,12 +67,12 @@ pub least-spec : {M : Type 1} → statement M
 least-spec =
     tie.close
     (tie.spec
-    (λ c. sfits (pos-b c.before.requires.0.lower) tt)
+    (λ c. sfits (pos_b c.before.requires.0.lower) tt)
     (λ c κs. let p = c.before.requires in (p.0, (read (cell w64 p.1.0 tt), p.1.1, read (cast w64 p.0.lower tt))))
-    (λ c. sfits (pos-b c.before.before.before.requires.0.upper) tt)
+    (λ c. sfits (pos_b c.before.before.before.requires.0.upper) tt)
     (λ c κs. let p = c.before.before.before.requires in (p.0, (read (cell w64 p.1.0 tt), p.1.1, read (cast w64 p.0.upper tt))))
     (λ c κs. search rules)
-    (λ c. let s = a c.before.before.before.before.before in sfits (pos-b s.pre.0.key) tt)
+    (λ c. let s = a c.before.before.before.before.before in sfits (pos_b s.pre.0.key) tt)
     (λ c κs.
     let p = (a c.before.before.before.before.before).pre in
     (p.0, (read (cell w64 p.1.0 tt), p.1.1, read (cast w64 p.0.key tt))))

@@ -2,7 +2,7 @@ use mathlib.Core.Path.{sym, ◌∙◌, ap}
 use lib.IntN.{pos, ◌+ℤ◌}
 use mir.Syntax.{w64}
 use mir.Val.{to_z, of_z}
-use Rattle.ints.specs.Bound.{sfits, pos-b}
+use Rattle.ints.specs.Bound.{sfits, pos_b}
 use Rattle.ints.specs.Held.{Held, cell, called, cast, read, fits+, fits*, plus, by}
 use Rattle.block.specs.Plan.{move}
 use Rattle.block.specs.Laws.{line-is}
@@ -27,8 +27,8 @@ line-spec =
     tie.close
     (tie.spec
     (λ c. fits* (cell w64 c.requires.1.0 tt) (cell w64 c.requires.1.2 tt) tt)
-    (λ c. sfits (pos-b c.before.requires.0.slope) tt)
-    (λ c. sfits (pos-b c.before.requires.1.1) tt)
+    (λ c. sfits (pos_b c.before.requires.0.slope) tt)
+    (λ c. sfits (pos_b c.before.requires.1.1) tt)
     (λ c. fits+ (cast w64 c.before.requires.0.slope tt) (cast w64 c.before.requires.1.1 tt) tt)
     (λ c κs. (c.before.requires.0, read (cell w64 c.before.requires.1.2 tt)))
     (λ c. fits* (raised (a c)) (moved c) tt)

@@ -5,7 +5,7 @@ use mir.Val.{to_z, of_z}
 use Rattle.ints.specs.Held.{Held, cell, called, read, fits+, fits-, fits*, plus, less, by}
 use Rattle.block.specs.Plan.{bend}
 use Rattle.block.specs.Gap.{line, candidates, least}
-use Rattle.block.specs.Laws.{wordGap-is}
+use Rattle.block.specs.Laws.{word_gap-is}
 use Rattle.block.specs.Fits.{bend-b, least-line-b}
 use Rattle.format.specs.Structs.{word_of}
 use Rattle.gap.proofs.word_gap.Statement.{statement}
@@ -26,12 +26,12 @@ module _ (c : tie.After-least) where
   abbrev b : tie.Start
   b = c.before.before
 
-  abbrev leastOf : ℤ → ℤ
-  leastOf h = least (line (word_of b.args.w) h b.args.cap) (candidates (word_of b.args.w))
+  abbrev least_of : ℤ → ℤ
+  least_of h = least (line (word_of b.args.w) h b.args.cap) (candidates (word_of b.args.w))
 
-  lowest : Held w64 (of_z w64 c.least.result) (leastOf b.args.h) 1443403714931458048
+  lowest : Held w64 (of_z w64 c.least.result) (least_of b.args.h) 1443403714931458048
   lowest =
-      called w64 (c.least.ensures ∙ ap leastOf (cell w64 b.pre.1.1 tt).is)
+      called w64 (c.least.ensures ∙ ap least_of (cell w64 b.pre.1.1 tt).is)
       (least-line-b b.pre.0 b.args.h b.args.cap b.pre.1.1 b.pre.1.2) tt
 
 pub word-gap-spec : {M : Type 1} → statement M
@@ -43,4 +43,4 @@ word-gap-spec =
     (λ c. fits+ (gt c) (bent c) tt)
     (λ c κs. (c.before.requires.0, (read (cell w64 c.before.requires.1.1 tt), c.before.requires.1.2)))
     (λ c. fits- (plus (gt c.before) (bent c.before) tt) (lowest c) tt)
-    (λ c. (less (plus (gt c.before) (bent c.before) tt) (lowest c) tt).is ∙ sym (wordGap-is _ _ _ _ _)))
+    (λ c. (less (plus (gt c.before) (bent c.before) tt) (lowest c) tt).is ∙ sym (word_gap-is _ _ _ _ _)))

@@ -7,24 +7,24 @@ use mir.Syntax.{w64}
 use mir.Val.{to_z, of_z}
 use Rattle.ints.specs.Sum.{Σ}
 use Rattle.ints.specs.Bound.{◌≼◌, ◌+b◌}
-use Rattle.ints.specs.Held.{Held, called, read, Sums, Σ-none, Σ-fits, Σ-turn, Σ-end}
+use Rattle.ints.specs.Held.{Held, called, read, Sums, Σ-none, Σ-fits, Σ_turn, Σ_end}
 use Rattle.block.specs.Block.{Block, word}
 use Rattle.block.specs.Plan.{time}
-use Rattle.block.specs.Gap.{g, anchorPart, h, wordGap, wordGapOf}
-use Rattle.block.specs.Laws.{h-is, wordGapOf-is, wordGaps-is}
-use Rattle.block.specs.Fits.{g-b, anchorPart-b, h-b, wordGapOf-b, wordGaps-b}
+use Rattle.block.specs.Gap.{g, anchor_part, h, word_gap, word_gap_of}
+use Rattle.block.specs.Laws.{h-is, word_gap_of-is, word_gaps-is}
+use Rattle.block.specs.Fits.{g-b, anchor_part-b, h-b, word_gap_of-b, word_gaps-b}
 use Rattle.format.specs.Structs.{block_of}
 use Rattle.format.specs.Entries.{words-length, word_in, in_words}
-use Rattle.exact.specs.Planned.{plan-timed, timed-at, of_word}
-use Rattle.gap.specs.Prices.{anchorPrices, pricesWith}
-use Rattle.gap.specs.Input.{input-priced}
+use Rattle.exact.specs.Planned.{plan-timed, timed-at, of-word}
+use Rattle.gap.specs.Prices.{anchor_prices, prices_with}
+use Rattle.gap.specs.Input.{input_priced}
 use Rattle.gap.specs.Words.{at, Each, Within, each-small, each-added}
 use Rattle.gap.proofs.word_gaps.Statement.{statement}
 use Rattle.gap.proofs.word_gaps.Tie as tie
 
 abbrev invariant-loop : tie.invariant-loop
 invariant-loop times prices cap b g h sum₀ n i₀ sum i =
-    (i ≤ b.words) × Sums sum i (wordGapOf (block_of b) times (pricesWith (block_of b) prices cap))
+    (i ≤ b.words) × Sums sum i (word_gap_of (block_of b) times (prices_with (block_of b) prices cap))
 
 abbrev decreases-loop : tie.decreases-loop
 decreases-loop times prices cap b g h sum₀ n i₀ sum i = b.words - i
@@ -45,7 +45,7 @@ module _ (c : tie.After-add-anchors invariant-loop decreases-loop) where
   B = block_of I₂.args.t1
 
   abbrev anchored : ℕ → ℤ
-  anchored i = g B I₂.args.times.now i +ℤ anchorPart B (anchorPrices B I₂.args.prices.now) i
+  anchored i = g B I₂.args.times.now i +ℤ anchor_part B (anchor_prices B I₂.args.prices.now) i
 
   each-anchored : Each I₂.args.t1.words anchored c.add-anchors.result
   each-anchored = each-added c.before.half-slopes.ensures c.add-anchors.ensures
@@ -53,7 +53,7 @@ module _ (c : tie.After-add-anchors invariant-loop decreases-loop) where
   with-anchors : Within I₂.args.t1.words c.add-anchors.result 3298534883328
   with-anchors =
       each-small each-anchored
-      (λ i. g-b I₂.pre.planned.ranged (plan-timed I₂.pre.planned) i +b anchorPart-b I₂.pre.planned.ranged (input-priced I₂.pre) i)
+      (λ i. g-b I₂.pre.planned.ranged (plan-timed I₂.pre.planned) i +b anchor_part-b I₂.pre.planned.ranged (input_priced I₂.pre) i)
 
 -- ---- a turn
 module _ (c : tie.After-time-at invariant-loop decreases-loop) where
@@ -84,10 +84,10 @@ module _ (c : tie.After-time-at invariant-loop decreases-loop) where
       called w64 (s.before.before.half-slopes.ensures.is _ in_block)
       (g-b a.pre.planned.ranged (plan-timed a.pre.planned) t.loop.i) tt
 
-  steep : Held w64 (of_z w64 hᵢ) (h b a.args.times.now (pricesWith b a.args.prices.now a.args.cap) t.loop.i) 5497558138880
+  steep : Held w64 (of_z w64 hᵢ) (h b a.args.times.now (prices_with b a.args.prices.now a.args.cap) t.loop.i) 5497558138880
   steep =
       called w64 ((each-added (each-anchored s.before) s.add-spans.ensures).is _ in_block ∙ sym (h-is _ _ _ _))
-      (h-b a.pre.planned.ranged (input-priced a.pre) (plan-timed a.pre.planned) t.loop.i) tt
+      (h-b a.pre.planned.ranged (input_priced a.pre) (plan-timed a.pre.planned) t.loop.i) tt
 
 module _ (c : tie.After-word-gap invariant-loop decreases-loop) where
   abbrev e : tie.After-time-at invariant-loop decreases-loop
@@ -95,22 +95,22 @@ module _ (c : tie.After-word-gap invariant-loop decreases-loop) where
 
   -- word i's part
   abbrev part : ℕ → ℤ
-  part = wordGapOf (b e) (a e).args.times.now (pricesWith (b e) (a e).args.prices.now (a e).args.cap)
+  part = word_gap_of (b e) (a e).args.times.now (prices_with (b e) (a e).args.prices.now (a e).args.cap)
 
   term : Held w64 (of_z w64 c.word_gap.result) (part (t e).loop.i) 2089672426089611264
   term =
       called w64
-      (of_word (a e).pre.planned (in_block e) e.time-at.ensures
-      (λ w y. wordGap w (to_z w64 (of_z w64 (gᵢ e))) (to_z w64 (of_z w64 (hᵢ e))) (a e).args.cap y) c.word_gap.ensures
-      ∙ ap₂ (λ (u v : ℤ). wordGap (word (b e) (t e).loop.i) u v (a e).args.cap (time (a e).args.times.now (t e).loop.i))
+      (of-word (a e).pre.planned (in_block e) e.time-at.ensures
+      (λ w y. word_gap w (to_z w64 (of_z w64 (gᵢ e))) (to_z w64 (of_z w64 (hᵢ e))) (a e).args.cap y) c.word_gap.ensures
+      ∙ ap₂ (λ (u v : ℤ). word_gap (word (b e) (t e).loop.i) u v (a e).args.cap (time (a e).args.times.now (t e).loop.i))
       (slope e).is (steep e).is
-      ∙ sym (wordGapOf-is _ _ _ _))
-      (wordGapOf-b (a e).pre.planned.ranged (input-priced (a e).pre) (plan-timed (a e).pre.planned) (t e).loop.i
+      ∙ sym (word_gap_of-is _ _ _ _))
+      (word_gap_of-b (a e).pre.planned.ranged (input_priced (a e).pre) (plan-timed (a e).pre.planned) (t e).loop.i
       (in_words (a e).pre.planned.sound (in_block e))) tt
 
   so-far-b : Σ (t e).loop.i part ≼ 2089672426089611264
   so-far-b =
-      wordGaps-b (a e).pre.planned.ranged (input-priced (a e).pre) (plan-timed (a e).pre.planned) (t e).loop.i
+      word_gaps-b (a e).pre.planned.ranged (input_priced (a e).pre) (plan-timed (a e).pre.planned) (t e).loop.i
       (omega (arith, (t e).loop.inv.0, words-length (a e).pre.planned.sound))
 
 pub word-gaps-spec : {M : Type 1} → statement M
@@ -133,12 +133,12 @@ word-gaps-spec =
     (λ c κs.
     let p = (a c).requires in (
       word_in p.planned.sound p.planned.ranged (in_block c),
-      (read (slope c), read (steep c), p.cap-small, read (timed-at p.planned (in_block c) c.time-at.ensures)),
+      (read (slope c), read (steep c), p.cap_small, read (timed-at p.planned (in_block c) c.time-at.ensures)),
     ))
     (λ c. Σ-fits (t (e c)).loop.inv.1 (so-far-b c) (term c) tt)
     (λ c. search rules)
     (λ c. search rules)
-    (λ c. (search rules, Σ-turn (t (e c)).loop.inv.1 (so-far-b c) (term c) tt))
+    (λ c. (search rules, Σ_turn (t (e c)).loop.inv.1 (so-far-b c) (term c) tt))
     (λ c.
     let n = words-length c.before.before.before.before.before.requires.planned.sound in
-    Σ-end c.before.loop.invariant.1 _ (omega arith) (omega arith) ∙ sym (wordGaps-is _ _ _)))
+    Σ_end c.before.loop.invariant.1 _ (omega arith) (omega arith) ∙ sym (word_gaps-is _ _ _)))

@@ -1,17 +1,17 @@
-use Rattle.folds.specs.Kit.{◌+◌, ◌*◌, ◌≤◌, arith, length, pick, kit, col-end}
+use Rattle.folds.specs.Kit.{◌+◌, ◌*◌, ◌≤◌, arith, length, pick, kit, col_end}
 use Rattle.folds.specs.Part.{part}
-use Rattle.householder.specs.Householder.{qTrStep, fromDiagonal}
+use Rattle.householder.specs.Householder.{q_tr_step, from_diagonal}
 use Rattle.householder.proofs.q_tr_step.Statement.{statement}
 use Rattle.householder.proofs.q_tr_step.Tie as tie
 
 ends : (c : tie.Start) → c.args.n + c.args.k * c.args.n ≤ length c.args.a.now
-ends c = col-end _ _ c.args.m _ c.requires.0 c.requires.1
+ends c = col_end _ _ c.args.m _ c.requires.0 c.requires.1
 
 ends-then : (c : tie.Then1) → let s = c.before.before.before.before.before in s.args.n + s.args.k * s.args.n ≤ length s.args.a.now
 ends-then c = ends c.before.before.before.before.before
 
 pub q-tr-step-spec : {M : Type 1} → statement M
-unfolding qTrStep fromDiagonal part pick
+unfolding q_tr_step from_diagonal part pick
 q-tr-step-spec =
     tie.close
     (tie.spec (λ c. search kit)

@@ -1,14 +1,14 @@
-use Rattle.folds.specs.Kit.{◌+◌, ◌*◌, ◌≤◌, arith, length, kit, col-end}
-use Rattle.folds.specs.Part.{part, withPart, with_out, onPartOut}
-use Rattle.householder.specs.Householder.{qrColumn}
+use Rattle.folds.specs.Kit.{◌+◌, ◌*◌, ◌≤◌, arith, length, kit, col_end}
+use Rattle.folds.specs.Part.{part, with_part, with_out, on_part_out}
+use Rattle.householder.specs.Householder.{qr_column}
 use Rattle.householder.proofs.qr_column.Statement.{statement}
 use Rattle.householder.proofs.qr_column.Tie as tie
 
 ends : (c : tie.Start) → c.args.n + c.args.k * c.args.n ≤ length c.args.a.now
-ends c = col-end _ _ c.args.m _ c.requires.0 c.requires.2
+ends c = col_end _ _ c.args.m _ c.requires.0 c.requires.2
 
 pub qr-column-spec : {M : Type 1} → statement M
-unfolding qrColumn onPartOut with_out withPart part
+unfolding qr_column on_part_out with_out with_part part
 qr-column-spec =
     tie.close
     (tie.spec

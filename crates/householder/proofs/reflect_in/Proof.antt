@@ -1,19 +1,19 @@
-use Rattle.folds.specs.Kit.{◌≡◌, ◌∙◌, ◌+◌, ◌-◌, ◌*◌, ◌≤◌, arith, length, kit, col-end}
+use Rattle.folds.specs.Kit.{◌≡◌, ◌∙◌, ◌+◌, ◌-◌, ◌*◌, ◌≤◌, arith, length, kit, col_end}
 use Rattle.vector.specs.Laws.{copy-over}
-use Rattle.folds.specs.Part.{part, length_part}
-use Rattle.householder.specs.Householder.{reflectRest, fromDiagonal}
+use Rattle.folds.specs.Part.{part, length-part}
+use Rattle.householder.specs.Householder.{reflect_rest, from_diagonal}
 use Rattle.householder.proofs.reflect_in.Statement.{statement}
 use Rattle.householder.proofs.reflect_in.Tie as tie
 
 ends : (c : tie.Start) → c.args.n + c.args.k * c.args.n ≤ length c.args.a.now
-ends c = col-end _ _ c.args.m _ c.requires.0 c.requires.2
+ends c = col_end _ _ c.args.m _ c.requires.0 c.requires.2
 
 height : (c : tie.Start) →
     length (part (c.args.k + c.args.k * c.args.n) (c.args.n + c.args.k * c.args.n) c.args.a.now) ≡ c.args.n - c.args.k
-height c = length_part _ _ c.args.a.now (ends c) ∙ omega arith
+height c = length-part _ _ c.args.a.now (ends c) ∙ omega arith
 
 pub reflect-in-spec : {M : Type 1} → statement M
-unfolding reflectRest fromDiagonal part
+unfolding reflect_rest from_diagonal part
 reflect-in-spec =
     tie.close
     (tie.spec

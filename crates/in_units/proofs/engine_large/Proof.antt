@@ -2,8 +2,8 @@ use Rattle.folds.specs.Kit.{◌*◌, ◌≤◌, sym, arith, needs}
 use Rattle.folds.specs.Cell.{area}
 use lib.Seq.{length-take-le}
 use Rattle.sizes.specs.Sizes as Sizes
-use Rattle.vector.specs.Laws.{take-zeros}
-use Rattle.in_units.specs.Room.{room_of}
+use Rattle.vector.specs.Laws.{take_zeros}
+use Rattle.in_units.specs.Room.{room-of}
 use Rattle.in_units.proofs.engine_large.Statement.{statement}
 use Rattle.in_units.proofs.engine_large.Tie as tie
 
@@ -21,9 +21,9 @@ solve-piecewise-in-units-requires c κs =
       p.0,
       p.1,
       p.2,
-      room_of {x = Sizes.originals} {y = Sizes.variables} {z = Sizes.columns} _ _ _ _ p.0.few p.0.variables
+      room-of {x = Sizes.originals} {y = Sizes.variables} {z = Sizes.columns} _ _ _ _ p.0.few p.0.variables
           (omega arith) (omega arith) (omega arith) (omega arith) (omega arith) (omega arith),
-      take-zeros _ _ (square-fits s),
+      take_zeros _ _ (square-fits s),
     )
 
 pub engine-large-spec : {M : Type 1} → statement M

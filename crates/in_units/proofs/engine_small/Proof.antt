@@ -2,8 +2,8 @@ use Rattle.folds.specs.Kit.{◌+◌, ◌*◌, ◌≤◌, sym, arith, needs}
 use Rattle.folds.specs.Cell.{area}
 use lib.Seq.{length-take-le}
 use Rattle.sizes.specs.Sizes as Sizes
-use Rattle.vector.specs.Laws.{take-zeros}
-use Rattle.in_units.specs.Room.{room_of}
+use Rattle.vector.specs.Laws.{take_zeros}
+use Rattle.in_units.specs.Room.{room-of}
 use Rattle.in_units.proofs.engine_small.Statement.{statement}
 use Rattle.in_units.proofs.engine_small.Tie as tie
 
@@ -21,9 +21,9 @@ solve-piecewise-in-units-requires c κs =
       p.0,
       p.1,
       p.2,
-      room_of {x = Sizes.few} {y = Sizes.few + Sizes.few} {z = Sizes.equalities + Sizes.few} _ _ _ _ p.5
+      room-of {x = Sizes.few} {y = Sizes.few + Sizes.few} {z = Sizes.equalities + Sizes.few} _ _ _ _ p.5
           (omega arith) (omega arith) (omega arith) (omega arith) (omega arith) (omega arith) (omega arith),
-      take-zeros _ _ (square-fits s),
+      take_zeros _ _ (square-fits s),
     )
 
 pub engine-small-spec : {M : Type 1} → statement M

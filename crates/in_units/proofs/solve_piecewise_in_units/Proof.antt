@@ -3,7 +3,7 @@ use Rattle.folds.specs.Tab.{taken-over}
 use native.Mathlib.Nat.{le_refl}
 use lib.Seq.{length-take-le}
 use Rattle.vector.specs.Laws.{length-filled}
-use Rattle.starting.specs.Laws.{length-allFixed, started-consistent}
+use Rattle.starting.specs.Laws.{length-all_fixed, started_consistent}
 use Rattle.in_units.specs.Laws.{units-from}
 use Rattle.in_units.proofs.solve_piecewise_in_units.Statement.{statement}
 use Rattle.in_units.proofs.solve_piecewise_in_units.Tie as tie
@@ -33,7 +33,7 @@ passes-requires c κs =
     let s = (start (first f.before)).requires in (
       s.0,
       s.1,
-      rw f.before.started.ensures (started-consistent _ _ _ s.1),
+      rw f.before.started.ensures (started_consistent _ _ _ s.1),
       sym (slice-aggregate-passes f),
       s.3,
       rw (s.4, length-filled) (le_refl _),
@@ -43,7 +43,7 @@ returns : tie.Need-returns
 returns c =
     let g = gave c in
     let a = (setup g.before).before in
-    units-from _ _ _ _ _ _ _ _ _ (taken-over _ _ (length-allFixed _ _) (first a).all-fixed.ensures)
+    units-from _ _ _ _ _ _ _ _ _ (taken-over _ _ (length-all_fixed _ _) (first a).all-fixed.ensures)
     a.before.magnitudes.ensures.0 a.before.magnitudes.ensures.1 a.started.ensures (start (first a)).requires.4 g.passes.ensures
 
 pub solve-piecewise-in-units-spec : {M : Type 1} → statement M
@@ -51,7 +51,7 @@ solve-piecewise-in-units-spec =
     tie.close
     (tie.spec
     (λ c κs. let s = (known c).requires in (s.0.variables, s.1))  -- all-fixed-requires
-    (λ c κs. let s = (start c).requires in (s.0.variables, s.0.q-holds, s.0.c-holds, s.1))  -- magnitudes-requires
+    (λ c κs. let s = (start c).requires in (s.0.variables, s.0.q_holds, s.0.c_holds, s.1))  -- magnitudes-requires
     (λ c κs. let s = (start c.before).requires in (s.0.variables, s.2, s.1))  -- started-requires
     (λ c. let v = (start (first c)).requires.0.variables in omega arith)  -- array-share-prefix-fixed
     slice-aggregate-passes

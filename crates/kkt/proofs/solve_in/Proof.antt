@@ -1,8 +1,8 @@
 use Rattle.folds.specs.Kit.{◌≤◌, sym, ◌∙◌, arith, length, needs}
 use lib.Seq.{length-take-le}
 use Rattle.scaled.specs.System.{square-fits, entries-fits}
-use Rattle.units.specs.Laws.{unitsK-copied, unitsE-copied}
-use Rattle.solution.specs.Laws.{solution-answer}
+use Rattle.units.specs.Laws.{units_k_copied, units_e_copied}
+use Rattle.solution.specs.Laws.{solution_answer}
 use Rattle.kkt.specs.Laws.{units-from}
 use Rattle.kkt.proofs.solve_in.Statement.{statement}
 use Rattle.kkt.proofs.solve_in.Tie as tie
@@ -61,7 +61,7 @@ slice-aggregate-div c =
 div-requires : tie.Need-div-requires
 div-requires c κs =
     let p = (start c.before.before.before.before.before.before.before.before.before.before.before.before).requires in
-    (omega (arith, p.0.few), p.0.c-holds, omega (arith, slice-aggregate-div c))
+    (omega (arith, p.0.few), p.0.c_holds, omega (arith, slice-aggregate-div c))
 
 slice-aggregate-div-2 : tie.Need-slice-aggregate-div-2
 slice-aggregate-div-2 c =
@@ -71,7 +71,7 @@ slice-aggregate-div-2 c =
 div-requires-2 : tie.Need-div-requires-2
 div-requires-2 c κs =
     let p = (start c.before.before.before.before.before.before.before.before.before.before.before.before.before.before).requires in
-    (omega (arith, p.0.columns), p.0.b-holds, omega (arith, slice-aggregate-div-2 c))
+    (omega (arith, p.0.columns), p.0.b_holds, omega (arith, slice-aggregate-div-2 c))
 
 slice-reshare-prefix-solve-noisy-kkt : tie.Need-slice-reshare-prefix-solve-noisy-kkt
 slice-reshare-prefix-solve-noisy-kkt c = omega (arith, (start (copied_at c)).requires.1)
@@ -103,10 +103,10 @@ solve-noisy-kkt-requires c κs =
     record {
       few = p.few;
       columns = p.columns;
-      k-holds = omega (arith, slice-aggregate-solve-noisy-kkt c.before.before.before);
-      c-holds = omega (arith, slice-aggregate-solve-noisy-kkt-2 c.before.before);
-      e-holds = omega (arith, slice-aggregate-solve-noisy-kkt-3 c.before);
-      b-holds = omega (arith, slice-aggregate-solve-noisy-kkt-4 c);
+      k_holds = omega (arith, slice-aggregate-solve-noisy-kkt c.before.before.before);
+      c_holds = omega (arith, slice-aggregate-solve-noisy-kkt-2 c.before.before);
+      e_holds = omega (arith, slice-aggregate-solve-noisy-kkt-3 c.before);
+      b_holds = omega (arith, slice-aggregate-solve-noisy-kkt-4 c);
     }
 
 array-share-prefix-scales-4 : tie.Need-array-share-prefix-scales-4
@@ -124,7 +124,7 @@ slice-aggregate-original-2 c = sym (length-take-le _ _ (array-share-prefix-colum
 original-requires : tie.Need-original-requires
 original-requires c κs =
     let p = (start (copied_at (div-at (solved-at c.before.before)))).requires.0 in
-    (p.few, p.columns, p.e-holds, p.b-holds, omega (arith, slice-aggregate-original c.before), omega (arith, slice-aggregate-original-2 c))
+    (p.few, p.columns, p.e_holds, p.b_holds, omega (arith, slice-aggregate-original c.before), omega (arith, slice-aggregate-original-2 c))
 
 returns : tie.Need-returns
 returns c =
@@ -132,11 +132,11 @@ returns c =
     let d = div-at s in
     let k = copied_at d in
     units-from _ _ _ _ _ _ (columns-at k).before.diagonal-scales.ensures (columns-at k).column-scales.ensures
-    (unitsK-copied _ _ _ _ k.before.before.before.before.before.before.copy.ensures (units-k-at d).units-k.ensures)
-    (unitsE-copied _ _ _ _ _ _ k.before.before.copy2.ensures (units-e-at d).units-e.ensures)
+    (units_k_copied _ _ _ _ k.before.before.before.before.before.before.copy.ensures (units-k-at d).units-k.ensures)
+    (units_e_copied _ _ _ _ _ _ k.before.before.copy2.ensures (units-e-at d).units-e.ensures)
     d.before.before.div.ensures
     d.div2.ensures
-    (sym (solution-answer _ _ _) ∙ s.solve-noisy-kkt.ensures)
+    (sym (solution_answer _ _ _) ∙ s.solve-noisy-kkt.ensures)
     c.original.ensures
 
 pub solve-in-spec : {M : Type 1} → statement M

@@ -1,7 +1,7 @@
 use Rattle.folds.specs.Kit.{sym, ◌∙◌, arith, needs, pick}
-use Rattle.solution.specs.Laws.{solution-answer}
-use Rattle.outputs.specs.Kkt.{refused-wrongShape}
-use Rattle.kkt.specs.Kkt.{solveKkt}
+use Rattle.solution.specs.Laws.{solution_answer}
+use Rattle.outputs.specs.Kkt.{refused-wrong_shape}
+use Rattle.kkt.specs.Kkt.{solve_kkt}
 use Rattle.kkt.specs.Laws.{shape, sized}
 use Rattle.kkt.proofs.solve_kkt.Statement.{statement}
 use Rattle.kkt.proofs.solve_kkt.Tie as tie
@@ -14,18 +14,18 @@ write-solution-requires : tie.Need-write-solution-requires
 write-solution-requires c κs =
     let t = c.before.before.before.before.before in
     let s = shape _ _ _ _ _ _ _ _ (sym t.before.shaped.ensures ∙ t.if1.true) in
-    (s.few, omega (arith, s.columns), s.x-long, s.multipliers-long)
+    (s.few, omega (arith, s.columns), s.x_long, s.multipliers_long)
 
 returns : tie.Need-returns
-unfolding solveKkt pick
+unfolding solve_kkt pick
 returns c =
     let s = c.before.before.before.before.before.before.before.before.before in
-    let e = sym (solution-answer _ _ _) ∙ s.solve-shaped.ensures in
+    let e = sym (solution_answer _ _ _) ∙ s.solve-shaped.ensures in
     rw (← s.before.before.shaped.ensures, s.before.if1.true, ← e) c.before.before.before.before.write-solution.ensures
 
 returns-2 : tie.Need-returns-2
-unfolding solveKkt pick
-returns-2 c = rw (← c.before.shaped.ensures, c.if1.false) (refused-wrongShape _ _)
+unfolding solve_kkt pick
+returns-2 c = rw (← c.before.shaped.ensures, c.if1.false) (refused-wrong_shape _ _)
 
 pub solve-kkt-spec : {M : Type 1} → statement M
 solve-kkt-spec =

@@ -1,6 +1,6 @@
 use Rattle.folds.specs.Kit.{refl, sym, ◌∙◌, arith, length, needs, pick}
 use lib.Seq.{length-take-le}
-use Rattle.solution.specs.Laws.{solution-solved, solution-singular}
+use Rattle.solution.specs.Laws.{solution_solved, solution_singular}
 use Rattle.kkt_original.specs.Original.{restored}
 use Rattle.kkt_original.proofs.restored.Statement.{statement}
 use Rattle.kkt_original.proofs.restored.Tie as tie
@@ -27,14 +27,14 @@ returns : tie.Need-returns
 unfolding restored pick
 returns c =
     let t = c.before.before.before in
-    solution-solved _ _ _ refl
+    solution_solved _ _ _ refl
     ∙ rw (← t.before.before.div.ensures, ← t.checked.ensures, c.before.before.if1.true, c.original-multipliers.ensures)
 
 returns-2 : tie.Need-returns-2
 unfolding restored pick
 returns-2 c =
     let t = c.before.before in
-    solution-singular _ _ _ c.refused.ensures ∙ rw (← t.before.before.div.ensures, ← t.checked.ensures, c.before.if1.false)
+    solution_singular _ _ _ c.refused.ensures ∙ rw (← t.before.before.div.ensures, ← t.checked.ensures, c.before.if1.false)
 
 pub restored-spec : {M : Type 1} → statement M
 restored-spec =

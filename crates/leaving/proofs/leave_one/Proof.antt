@@ -1,10 +1,10 @@
 use Rattle.folds.specs.Kit.{pick, kit}
-use Rattle.leaving.specs.Held.{leaveOne}
+use Rattle.leaving.specs.Held.{leave_one}
 use Rattle.leaving.proofs.leave_one.Statement.{statement}
 use Rattle.leaving.proofs.leave_one.Tie as tie
 
 pub leave-one-spec : {M : Type 1} → statement M
-unfolding leaveOne pick
+unfolding leave_one pick
 leave-one-spec =
     tie.close
     (tie.spec (λ c. search kit) (λ c. search kit)

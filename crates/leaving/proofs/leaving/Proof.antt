@@ -1,5 +1,5 @@
-use Rattle.folds.specs.Kit.{◌≡◌, ◌-◌, ◌≤◌, arith, length, fold, fold-call, fold_end, kit}
-use Rattle.leaving.specs.Held.{held, leaveOne, leaving}
+use Rattle.folds.specs.Kit.{◌≡◌, ◌-◌, ◌≤◌, arith, length, fold, fold_call, fold_end, kit}
+use Rattle.leaving.specs.Held.{held, leave_one, leaving}
 use Rattle.leaving.proofs.leaving.Statement.{statement}
 use Rattle.leaving.proofs.leaving.Tie as tie
 
@@ -8,7 +8,7 @@ invariant-loop l₀ originals wanted room₀ s₀ t₀ l room s t =
     (t ≤ originals)
     × (length l ≡ length l₀)
     × (length room ≡ length room₀)
-    × (held s l ≡ fold t (λ u. leaveOne originals wanted (originals - 1 - u)) (held s₀ l₀))
+    × (held s l ≡ fold t (λ u. leave_one originals wanted (originals - 1 - u)) (held s₀ l₀))
 
 abbrev decreases-loop : tie.decreases-loop
 decreases-loop l₀ originals wanted room₀ s₀ t₀ l room s t = originals - t
@@ -16,7 +16,7 @@ decreases-loop l₀ originals wanted room₀ s₀ t₀ l room s t = originals - 
 leave-one-requires : tie.Need-leave-one-requires invariant-loop decreases-loop
 leave-one-requires c κs =
     let p = c.before.before.before.before.before.before.requires in
-    (record { few = p.few; l-holds = omega (arith, p.l-holds); room-holds = omega (arith, p.room-holds) }, omega arith)
+    (record { few = p.few; l_holds = omega (arith, p.l_holds); room_holds = omega (arith, p.room_holds) }, omega arith)
 
 pub leaving-spec : {M : Type 1} → statement M
 unfolding leaving
@@ -29,7 +29,7 @@ leaving-spec =
       omega arith,
       omega arith,
       omega arith,
-      fold-call _ _ _ c.before.before.before.before.before.before.before.before.loop.invariant.3
+      fold_call _ _ _ c.before.before.before.before.before.before.before.before.loop.invariant.3
           c.before.before.before.before.leave-one.ensures,
     ))  -- loop-again
     (λ c. search kit) (λ c. search kit)

@@ -13,8 +13,8 @@ remove-column-requires c κs =
     omega (
       arith,
       s.requires.0.few,
-      s.requires.0.l-holds,
-      s.requires.0.room-holds,
+      s.requires.0.l_holds,
+      s.requires.0.room_holds,
       c.before.before.place2.ensures,
       c.before.before.before.place.ensures,
       place-held s.args.s s.args.i s.args.originals s.requires.1 s.requires.2,

@@ -35,7 +35,7 @@ use Rattle.factoring.specs.declared.Factoring.{Factoring}
 use Rattle.factoring.specs.contracts.Factoring as T
 use Rattle.factoring.proofs.Factoring.TheLaws as T'
 use Rattle.walks.specs.Walks.{Walked, ends, met, answers}
-use Rattle.lent_factoring.proofs.Lent.{Row, mach, typed, lends-record, record-back, left-held}
+use Rattle.lent_factoring.proofs.Lent.{Row, mach, typed, lends_record, record-back, left-held}
 use Rattle.lent_factoring.specs.contracts.reset as callee
 use Rattle.lent_factoring.proofs.reset.Symbol as callee-def
 use Rattle.lent_factoring.proofs.reset.Symbol.{name as #callee}
@@ -87,7 +87,7 @@ module _ {M : Type 1} {𝓤 : Ura M} (𝓛 : Logic 𝓤) (at_mem : Memory → SP
           -- [_4; …; _3; …; _2; …; _1; …; _0; …; the others]
           assigns ! (of_opd ! (load ! (from ! (stop !)) (look ! 6 refl))) (from ! (stop !)) (init ! 4 refl (typed 𝓛 h (mach h) g)) $
           assigns ! (addr ! (from ! (stop !))) (from ! (stop !)) (init ! 0 refl (tt, tt)) $
-          move ! (4 ∷ 10 ∷ 11 ∷ 12 ∷ []) $ lends-record ! tt h g l₂ (λ α δ. use1 𝓛 (raw (Callee.pre (to-callee α l₂ δ))) (id⊢ 𝓤 _) $
+          move ! (4 ∷ 10 ∷ 11 ∷ 12 ∷ []) $ lends_record ! tt h g l₂ (λ α δ. use1 𝓛 (raw (Callee.pre (to-callee α l₂ δ))) (id⊢ 𝓤 _) $
           -- [what the call asks; the lender's part; _4; …; _3; …; _2's end; _1; …; _0; …]
           calls_at ! (fm_of 𝓤 H 𝓛.laws 𝓣) Callee known (to-callee α l₂ δ)
           (and_then ! (load ! (from ! (stop !)) (look ! 2 refl)) (no_more !)) (λ v.

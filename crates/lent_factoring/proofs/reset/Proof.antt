@@ -35,7 +35,7 @@ use Rattle.factoring.proofs.Factoring.reset.Symbol as callee-def
 use Rattle.factoring.proofs.Factoring.reset.Symbol.{name as #callee}
 use Rattle.factoring.proofs.Factoring.reset.Met as callee-thm
 use Rattle.walks.specs.Walks.{Walked, ends, met, answers}
-use Rattle.lent_factoring.proofs.Lent.{Row, mach, typed, apart, opens-record, asks, left-lent}
+use Rattle.lent_factoring.proofs.Lent.{Row, mach, typed, apart, opens_record, asks, left-lent}
 use Rattle.lent_factoring.specs.contracts.reset.Key.{name as #reset}
 use Rattle.lent_factoring.specs.contracts.reset as this
 use Rattle.lent_factoring.proofs.reset.Statement as stated
@@ -79,7 +79,7 @@ module _ {M : Type 1} {𝓤 : Ura M} (𝓛 : Logic 𝓤) (at_mem : Memory → SP
           -- [what observes the reference's value; the borrow; its token; what the others own; their tokens; what is required]
           enter ! 𝓣.C 𝓣.Λ code.function (Mine.args mine) _ $
           alloc1 ! (λ l₀. alloc1 ! (λ l₁. alloc1 ! (λ l₂. alloc1 ! (λ l₃. alloc0 ! $ params1 ! $ pass1 ! (init ! 4 refl (tt, tt)) $ pass0 ! $
-          move ! (8 ∷ 9 ∷ 10 ∷ []) $ opens-record ! tt h b o (λ g.
+          move ! (8 ∷ 9 ∷ 10 ∷ []) $ opens_record ! tt h b o (λ g.
           -- [the record's cell; what it owns; the open borrow; what observes; what holds; _3; …; _2; …; _1; …; _0; …; the others]
           assigns ! (of_opd ! (load ! (from ! (hop ! (look ! 9 refl) (stop !))) (look_raw ! 0 refl))) (from ! (stop !))
           (init ! 5 refl (typed 𝓛 h (mach h) g)) $

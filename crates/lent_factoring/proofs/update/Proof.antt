@@ -35,16 +35,16 @@ use Rattle.factoring.specs.contracts.Factoring.update as callee
 use Rattle.factoring.proofs.Factoring.update.Symbol as callee-def
 use Rattle.factoring.proofs.Factoring.update.Symbol.{name as #callee}
 use Rattle.factoring.proofs.Factoring.update.Met as callee-thm
-use Rattle.lent_factoring.proofs.Lent.{others-spelled, others-tell}
+use Rattle.lent_factoring.proofs.Lent.{others_spelled, others_tell}
 use Rattle.walks.specs.Walks.{Walked, ends, met, answers}
-use Rattle.lent_factoring.proofs.Lent.{Row, mach, typed, apart, opens-record, asks, left-lent}
+use Rattle.lent_factoring.proofs.Lent.{Row, mach, typed, apart, opens_record, asks, left-lent}
 use Rattle.lent_factoring.specs.contracts.update.Key.{name as #update}
 use Rattle.lent_factoring.specs.contracts.update as this
 use Rattle.lent_factoring.proofs.update.Statement as stated
 use Rattle.lent_factoring.proofs.update.Code as code
 
 abbrev spelled : (κs : Lfts 5) → Spells (types_at (this.signature).params κs)
-spelled κs = (mut_vals, others-spelled (named 1) (named 2) (named 3) (named 4) κs.1)
+spelled κs = (mut_vals, others_spelled (named 1) (named 2) (named 3) (named 4) κs.1)
 
 module _ {M : Type 1} {𝓤 : Ura M} (𝓛 : Logic 𝓤) (at_mem : Memory → SProp 𝓤) (run : Routine → Fun 𝓤) where
   open 𝓛 use {H}
@@ -94,7 +94,7 @@ module _ {M : Type 1} {𝓤 : Ura M} (𝓛 : Logic 𝓤) (at_mem : Memory → SP
           pass1 ! (init ! 16 refl (tt, (tt, (record { fits = indices-fit }, tt)))) $
           pass1 ! (init ! 14 refl (tt, (tt, (record { fits = l-fits }, tt)))) $
           pass1 ! (init ! 12 refl (tt, (tt, (record { fits = room_fits }, tt)))) $ pass0 ! $
-          move ! (28 ∷ 29 ∷ 30 ∷ []) $ opens-record ! tt h b o (λ g.
+          move ! (28 ∷ 29 ∷ 30 ∷ []) $ opens_record ! tt h b o (λ g.
           -- [the record's cell; what it owns; the open borrow; what observes; what holds; _13; …; … ; _0; …; the others]
           assigns ! (of_opd ! (load ! (from ! (hop ! (look ! 29 refl) (stop !))) (look_raw ! 0 refl))) (from ! (stop !))
           (init ! 13 refl (typed 𝓛 h (mach h) g)) $
@@ -136,7 +136,7 @@ module _ {M : Type 1} {𝓤 : Ura M} (𝓛 : Logic 𝓤) (at_mem : Memory → SP
     meets : Meets 𝓛 this.signature (WpFn 𝓤 H 𝓣.C 𝓣.Λ code.function) (this.spec 𝓛 at_mem run)
     meets =
         met 𝓛 this.ended (this.clauses 𝓛 at_mem run) spelled 𝓣 code.function
-        (λ κs. (mut_Tells (named 0) κs.0 Row, others-tell (named 1) (named 2) (named 3) (named 4) κs.1))
+        (λ κs. (mut_Tells (named 0) κs.0 Row, others_tell (named 1) (named 2) (named 3) (named 4) κs.1))
         (λ κs qs bounds a g are. walk κs qs a are)
 
 pub update-spec : {M : Type 1} → stated.statement M

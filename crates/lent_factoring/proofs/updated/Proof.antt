@@ -35,9 +35,9 @@ use denote.Triple.Table.{entered, cited}
 use Rattle.factoring.specs.declared.Factoring.{Factoring}
 use Rattle.factoring.specs.contracts.Factoring as T
 use Rattle.factoring.proofs.Factoring.TheLaws as T'
-use Rattle.lent_factoring.proofs.Lent.{others-spelled, others-tell}
+use Rattle.lent_factoring.proofs.Lent.{others_spelled, others_tell}
 use Rattle.walks.specs.Walks.{Walked, ends, met, answers}
-use Rattle.lent_factoring.proofs.Lent.{mach, typed, lends-record, record-back, left-held}
+use Rattle.lent_factoring.proofs.Lent.{mach, typed, lends_record, record-back, left-held}
 use Rattle.lent_factoring.specs.contracts.update as callee
 use Rattle.lent_factoring.proofs.update.Symbol as callee-def
 use Rattle.lent_factoring.proofs.update.Symbol.{name as #callee}
@@ -48,7 +48,7 @@ use Rattle.lent_factoring.proofs.updated.Statement as stated
 use Rattle.lent_factoring.proofs.updated.Code as code
 
 abbrev spelled : (κs : Lfts 4) → Spells (types_at (this.signature).params κs)
-spelled κs = (LL.vals T.the_type T'.the_laws, others-spelled (named 0) (named 1) (named 2) (named 3) κs)
+spelled κs = (LL.vals T.the_type T'.the_laws, others_spelled (named 0) (named 1) (named 2) (named 3) κs)
 
 module _ {M : Type 1} {𝓤 : Ura M} (𝓛 : Logic 𝓤) (at_mem : Memory → SProp 𝓤) (run : Routine → Fun 𝓤) where
   open 𝓛 use {H}
@@ -113,7 +113,7 @@ module _ {M : Type 1} {𝓤 : Ura M} (𝓛 : Logic 𝓤) (at_mem : Memory → SP
           assigns ! (agg ! (and_then ! (load ! (from ! (stop !)) (look ! 2 refl))
           (and_then ! (load ! (from ! (fld ! refl (stop !))) (look_in ! 14 (sub ! 1 refl (whole !)))) (no_more !)))) (from ! (stop !))
           (init ! 0 refl (tt, (tt, (record { fits = room_fits }, tt)))) $
-          move ! (12 ∷ 30 ∷ 31 ∷ 32 ∷ []) $ lends-record ! tt h g l₈ (λ α δ. use1 𝓛 (raw (Callee.pre (to-callee α l₈ δ))) (id⊢ 𝓤 _) $
+          move ! (12 ∷ 30 ∷ 31 ∷ 32 ∷ []) $ lends_record ! tt h g l₈ (λ α δ. use1 𝓛 (raw (Callee.pre (to-callee α l₈ δ))) (id⊢ 𝓤 _) $
           -- [what the call asks; the lender's part; _14; …; … ; _9; …; _8's end; _7; …; … ; _0; …]
           calls_at ! (fm_of 𝓤 H 𝓛.laws 𝓣) Callee known (to-callee α l₈ δ)
           (and_then ! (load ! (from ! (stop !)) (look ! 10 refl)) (and_then ! (load ! (from ! (stop !)) (look ! 25 refl))
@@ -140,7 +140,7 @@ module _ {M : Type 1} {𝓤 : Ura M} (𝓛 : Logic 𝓤) (at_mem : Memory → SP
     meets : Meets 𝓛 this.signature (WpFn 𝓤 H 𝓣.C 𝓣.Λ code.function) (this.spec 𝓛 at_mem run)
     meets =
         met 𝓛 this.ended (this.clauses 𝓛 at_mem run) spelled 𝓣 code.function
-        (λ κs. (LL.tells T.the_type T'.the_laws, others-tell (named 0) (named 1) (named 2) (named 3) κs))
+        (λ κs. (LL.tells T.the_type T'.the_laws, others_tell (named 0) (named 1) (named 2) (named 3) κs))
         (λ κs qs bounds a g are. walk κs qs a are)
 
 pub updated-spec : {M : Type 1} → stated.statement M

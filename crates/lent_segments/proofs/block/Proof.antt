@@ -31,9 +31,9 @@ use denote.Triple.Entry.{Args, Vals, on_entry}
 use denote.Triple.Spec.{Meets, triple_of}
 use denote.Triple.Table.{entered, cited}
 use denote.Triple.Walked.{needs}
-use Rattle.walks.specs.Walks.{Walked, ends, met, asks-plain, answers, leaves}
+use Rattle.walks.specs.Walks.{Walked, ends, met, asks_plain, answers, leaves}
 use Rattle.sizes.specs.Sizes as Sizes
-use Rattle.segments.specs.Segments.{segmentsAt, stateAt}
+use Rattle.segments.specs.Segments.{segments_at, state_at}
 use Rattle.segments.specs.declared.Segments.{Segments}
 use Rattle.segments.specs.contracts.Segments as T
 use Rattle.segments.proofs.Segments.TheLaws as T'
@@ -73,26 +73,26 @@ module _ {M : Type 1} {𝓤 : Ura M} (𝓛 : Logic 𝓤) (at_mem : Memory → SP
     mine = ((κs, qs, tt, a, at), tt)
 
     abbrev s : Segments
-    s = segmentsAt a.1.1.1.0.now a.1.0
+    s = segments_at a.1.1.1.0.now a.1.0
 
     abbrev to-callee : Val → Callee.Ghost
     to-callee v =
         ((tt, tt, tt, (a.0, (a.1.0, (a.1.1.0, (s, a.1.1.1.1)))), (at.0, (at.1.0, (at.1.1.0, (v ∷ [], at.1.1.1.1))))), tt)
 
     walk : Are (types_at (this.signature).params κs) (Ises (types_at (this.signature).params κs)) a at →
-        (a.1.0 < length a.1.1.1.0.now) × (a.1.0 < Sizes.variables) × Inside s (stateAt a.0.state a.1.0) →
+        (a.1.0 < length a.1.1.1.0.now) × (a.1.0 < Sizes.variables) × Inside s (state_at a.0.state a.1.0) →
         ent 𝓤 (on_entry 𝓛 this.signature κs qs a at) (WpFn 𝓤 H 𝓣.C 𝓣.Λ code.function (Mine.args mine) (Mine.post mine))
     walk are p =
         let law = lawful Row 𝓛 (LL.lawful T.the_type T'.the_laws 𝓛) in
         let i-fits = are.1.0.1 in
-        let slice_fits = are.1.1.1.0.0.1.0 in
+        let slice-fits = are.1.1.1.0.0.1.0 in
         qed 𝓛 ((‵ (flft κs.0 qs.0) ⊛ ‵ ftrue) ∷ ‵ (owns (types_at (this.signature).params κs) a at) ∷ []) ∵
         enter ! 𝓣.C 𝓣.Λ code.function (Mine.args mine) _ $
         alloc1 ! (λ l₀. alloc1 ! (λ l₁. alloc1 ! (λ l₂. alloc1 ! (λ l₃. alloc1 ! (λ l₄. alloc1 ! (λ l₅. alloc1 ! (λ l₆. alloc1 ! (λ l₇. alloc0 ! $
         params1 ! $ pass1 ! (init ! 12 refl (law.0.typed a.0 _ are.0).0) $
         pass1 ! (init ! 10 refl (tt, record { fits = i-fits })) $
         pass1 ! (init ! 8 refl (law.1.1.0.typed a.1.1.0 _ are.1.1.0).0) $
-        pass1 ! (init ! 6 refl (tt, (tt, (record { fits = slice_fits }, tt)))) $
+        pass1 ! (init ! 6 refl (tt, (tt, (record { fits = slice-fits }, tt)))) $
         pass1 ! (init ! 4 refl (law.1.1.1.1.0.typed a.1.1.1.1.0 _ are.1.1.1.1.0).0) $
         pass1 ! (init ! 2 refl (law.1.1.1.1.1.0.typed a.1.1.1.1.1.0 _ are.1.1.1.1.1.0).0) $ pass0 ! $
         -- [_7; …; … ; _0; …; the token; what is owned]
@@ -104,7 +104,7 @@ module _ {M : Type 1} {𝓤 : Ura M} (𝓛 : Logic 𝓤) (at_mem : Memory → SP
         is_read ! tt at_mem run κs.0 qs.0 a.1.1.1.0 a.1.0 v (λ is.
         -- [the token; _7; …; … ; _0; …]
         land ! (from ! (stop !)) (init ! 1 refl (law.1.1.1.0.typed s (v ∷ []) is).0) $
-        asks-plain ! (types_at (callee.signature).params tt)
+        asks_plain ! (types_at (callee.signature).params tt)
         (makes Row 𝓛 (LL.makes T.the_type T'.the_plain 𝓛))
         (to-callee v).0.3 (to-callee v).0.4 (are.0, (are.1.0, (are.1.1.0, (is, are.1.1.1.1))))
         (p.1, p.2.cut, p.2.free, p.2.placed) $

@@ -36,11 +36,11 @@ use denote.Triple.Table.{entered, cited}
 use denote.Triple.Walked.{needs}
 use Rattle.walks.specs.Walks.{Walked, ends, met, asks, answers, leaves}
 use Rattle.sizes.specs.Sizes as Sizes
-use Rattle.segments.specs.Segments.{segmentsAt, stateAt}
+use Rattle.segments.specs.Segments.{segments_at, state_at}
 use Rattle.segments.specs.declared.Segments.{Segments}
 use Rattle.lent_segments.specs.Lent.{Inside}
-use Rattle.lent_segments.proofs.Around.{spells, tells, lawful, owned-around}
-use Rattle.lent_segments.proofs.Lent.{Row, val, Records, vals, lentTy, room, tell, long, lent, records-lawful, lends-records, records-back}
+use Rattle.lent_segments.proofs.Around.{spells, tells, lawful, owned_around}
+use Rattle.lent_segments.proofs.Lent.{Row, val, Records, vals, lent_ty, room, tell, long, lent, records_lawful, lends_records, records_back}
 use Rattle.lent_segments.specs.contracts.block as callee
 use Rattle.lent_segments.proofs.block.Symbol as callee-def
 use Rattle.lent_segments.proofs.block.Symbol.{name as #callee}
@@ -86,11 +86,11 @@ module _ {M : Type 1} {𝓤 : Ura M} (𝓛 : Logic 𝓤) (at_mem : Memory → SP
     )
 
     walk : Are (types_at (this.signature).params tt) (Ises (types_at (this.signature).params tt)) a at →
-        (a.1.0 < Sizes.variables) × Inside (segmentsAt xs a.1.0) (stateAt a.0.state a.1.0) →
+        (a.1.0 < Sizes.variables) × Inside (segments_at xs a.1.0) (state_at a.0.state a.1.0) →
         ent 𝓤 (on_entry 𝓛 this.signature tt tt a at) (WpFn 𝓤 H 𝓣.C 𝓣.Λ code.function (Mine.args mine) (Mine.post mine))
     walk are p =
         let g = are.1.1.1.0 in
-        let law = lawful Records 𝓛 (records-lawful 𝓛) in
+        let law = lawful Records 𝓛 (records_lawful 𝓛) in
         qed 𝓛 (‵ ftrue ∷ ‵ (owns (types_at (this.signature).params tt) a at) ∷ []) ∵ drop ! $ drop ! $
         enter ! 𝓣.C 𝓣.Λ code.function (Mine.args mine) _ $
         alloc1 ! (λ l₀. alloc1 ! (λ l₁. alloc1 ! (λ l₂. alloc1 ! (λ l₃. alloc1 ! (λ l₄. alloc1 ! (λ l₅. alloc1 ! (λ l₆. alloc1 ! (λ l₇.
@@ -105,10 +105,10 @@ module _ {M : Type 1} {𝓤 : Ura M} (𝓛 : Logic 𝓤) (at_mem : Memory → SP
         assigns ! (addr ! (from ! (stop !))) (from ! (stop !)) (init ! 2 refl (tt, tt)) $
         assigns ! (agg ! (and_then ! (load ! (from ! (stop !)) (look ! 2 refl)) (and_then ! (lit ! tt) (no_more !)))) (from ! (stop !))
         (init ! 0 refl (tt, (tt, (record { fits = room.0 }, tt)))) $
-        rewrite ! 0 (λ (n : ℕ). ‵ (fat full_share lentTy l₉ 0 (slice_val (l₇, 0) n))) (sym (long xs g)) refl $
-        move ! (4 ∷ []) $ lends-records ! tt xs g l₇ (λ α δ.
+        rewrite ! 0 (λ (n : ℕ). ‵ (fat full_share lent_ty l₉ 0 (slice_val (l₇, 0) n))) (sym (long xs g)) refl $
+        move ! (4 ∷ []) $ lends_records ! tt xs g l₇ (λ α δ.
         -- [the slice; the token; the lender's part; _9; …; _8; …; _7's end; _6; …; … ; _0; …]
-        owned-around ! (ShrSlice (named 0) (α ∷ []) Row) (to-callee α l₇ δ).0.3 (to-callee α l₇ δ).0.4 are.0 are.1.0 are.1.1.0
+        owned_around ! (ShrSlice (named 0) (α ∷ []) Row) (to-callee α l₇ δ).0.3 (to-callee α l₇ δ).0.4 are.0 are.1.0 are.1.1.0
         are.1.1.1.1 $
         move ! (1 ∷ 0 ∷ []) $ asks ! (omega (arith, p.0, long xs g), p.0, p.1) $
         use1 𝓛 (raw (Callee.pre (to-callee α l₇ δ))) (id⊢ 𝓤 _) $
@@ -119,7 +119,7 @@ module _ {M : Type 1} {𝓤 : Ura M} (𝓛 : Logic 𝓤) (at_mem : Memory → SP
         answers ! tt callee.ended (callee.clauses 𝓛 at_mem run) (to-callee α l₇ δ) v (λ r ws is.
         -- [what the result owns; the token; nothing said; what is ensured; the lender's part; _9; …; _8; …; _7's end; _6; …; … ; _0; …]
         land ! (from ! (stop !)) (init ! 22 refl (law.0.typed r (v ∷ []) is).0) $
-        move ! (1 ∷ 4 ∷ []) $ use1 𝓛 (‵ (flft (α ∷ []) full_share) ⊛ ‵ ftrue) (id⊢ 𝓤 _) $ records-back ! tt xs g l₇ $
+        move ! (1 ∷ 4 ∷ []) $ use1 𝓛 (‵ (flft (α ∷ []) full_share) ⊛ ‵ ftrue) (id⊢ 𝓤 _) $ records_back ! tt xs g l₇ $
         -- [_7; what the result owns; nothing said; what is ensured; _9; …; _8; …; _7's end; _6; …; … ; _0; …]
         returns ! (look ! 21 refl) $ forget ! 0 refl $ forget ! 4 refl $ forget ! 6 refl $ forget ! 9 refl $ forget ! 11 refl $ forget ! 13 refl $
         forget ! 15 refl $ forget ! 17 refl $ forget ! 19 refl $ forget ! 21 refl $

@@ -32,8 +32,8 @@ use denote.Triple.Entry.{Args, Vals, on_entry}
 use denote.Triple.Spec.{Meets, triple_of}
 use denote.Triple.Table.{entered, cited}
 use denote.Triple.Walked.{needs}
-use Rattle.walks.specs.Walks.{Walked, ends, met, asks-plain, answers, leaves}
-use Rattle.segments.specs.Segments.{segmentsAt}
+use Rattle.walks.specs.Walks.{Walked, ends, met, asks_plain, answers, leaves}
+use Rattle.segments.specs.Segments.{segments_at}
 use Rattle.segments.specs.declared.Segments.{Segments}
 use Rattle.segments.specs.contracts.Segments as T
 use Rattle.segments.proofs.Segments.TheLaws as T'
@@ -76,7 +76,7 @@ module _ {M : Type 1} {𝓤 : Ura M} (𝓛 : Logic 𝓤) (at_mem : Memory → SP
     mine = ((κs, qs, tt, a, at), tt)
 
     abbrev s : Segments
-    s = segmentsAt a.0.now a.1.0
+    s = segments_at a.0.now a.1.0
 
     abbrev to-callee : Val → Callee.Ghost
     to-callee v = ((tt, tt, tt, (s, (a.1.1.0, tt)), (v ∷ [], (at.1.1.0, tt))), tt)
@@ -85,12 +85,12 @@ module _ {M : Type 1} {𝓤 : Ura M} (𝓛 : Logic 𝓤) (at_mem : Memory → SP
         (a.1.0 < length a.0.now) × Inside s a.1.1.0.state →
         ent 𝓤 (on_entry 𝓛 this.signature κs qs a at) (WpFn 𝓤 H 𝓣.C 𝓣.Λ code.function (Mine.args mine) (Mine.post mine))
     walk are p =
-        let slice_fits = are.0.0.1.0 in
+        let slice-fits = are.0.0.1.0 in
         let i-fits = are.1.0.1 in
         qed 𝓛 ((‵ (flft κs.0 qs.0) ⊛ ‵ ftrue) ∷ ‵ (owns (types_at (this.signature).params κs) a at) ∷ []) ∵
         enter ! 𝓣.C 𝓣.Λ code.function (Mine.args mine) _ $
         alloc1 ! (λ l₀. alloc1 ! (λ l₁. alloc1 ! (λ l₂. alloc1 ! (λ l₃. alloc1 ! (λ l₄. alloc0 ! $ params1 ! $
-        pass1 ! (init ! 6 refl (tt, (tt, (record { fits = slice_fits }, tt)))) $ pass1 ! (init ! 4 refl (tt, record { fits = i-fits })) $
+        pass1 ! (init ! 6 refl (tt, (tt, (record { fits = slice-fits }, tt)))) $ pass1 ! (init ! 4 refl (tt, record { fits = i-fits })) $
         pass1 ! (init ! 2 refl ((LL.lawful S.the_type S'.the_laws 𝓛).typed a.1.1.0 _ are.1.1.0).0) $ pass0 ! $
         -- [_4; …; … ; _0; …; the token; what is owned]
         move ! (11 ∷ []) $ fsplit ! $ move ! (1 ∷ []) $ drop ! $ move ! (0 ∷ 11 ∷ []) $
@@ -101,7 +101,7 @@ module _ {M : Type 1} {𝓤 : Ura M} (𝓛 : Logic 𝓤) (at_mem : Memory → SP
         is_read ! tt at_mem run κs.0 qs.0 a.0 a.1.0 v (λ is.
         -- [the token; _4; …; … ; _0; …]
         land ! (from ! (stop !)) (init ! 1 refl ((LL.lawful T.the_type T'.the_laws 𝓛).typed s (v ∷ []) is).0) $
-        asks-plain ! (types_at (callee.signature).params tt)
+        asks_plain ! (types_at (callee.signature).params tt)
         (LL.makes T.the_type T'.the_plain 𝓛, (LL.makes S.the_type S'.the_plain 𝓛, tt)) (to-callee v).0.3 (to-callee v).0.4
         (is, (are.1.1.0, tt)) p.1 $
         use1 𝓛 (raw (Callee.pre (to-callee v))) (id⊢ 𝓤 _) $

@@ -53,22 +53,22 @@ use denote.Triple.Entry.{Args, Vals, on_entry}
 use denote.Triple.Spec.{Meets, triple_of}
 use denote.Triple.Table.{entered, cited}
 use denote.Triple.Walked.{needs}
-use Rattle.walks.specs.Walks.{Walked, ends, met, states, owned-all, asks, answers}
+use Rattle.walks.specs.Walks.{Walked, ends, met, states, owned_all, asks, answers}
 use Rattle.folds.specs.Fold.{over}
 use Rattle.sizes.specs.Sizes as Sizes
-use Rattle.segments.specs.Segments.{segmentsAt}
+use Rattle.segments.specs.Segments.{segments_at}
 use Rattle.segments.specs.declared.Spot.{Spot}
 use Rattle.segments.specs.declared.State.TheVariants.{At as Held-at}
 use Rattle.segments.specs.contracts.Spot as S
 use Rattle.segments.proofs.Spot.TheLaws as S'
-use Rattle.lent_segments.specs.Lent.{Listed, segmentIn, entries}
-use Rattle.lent_segments.specs.Laws.{read_none, read-turn, read_length}
+use Rattle.lent_segments.specs.Lent.{Listed, segment_in, entries}
+use Rattle.lent_segments.specs.Laws.{read-none, read_turn, read-length}
 use Rattle.lent_segments.specs.declared.Segment.{Segment}
 use Rattle.lent_segments.specs.contracts.Segment as O
 use Rattle.lent_segments.proofs.Segment.TheLaws as O'
 use Rattle.lent_segments.proofs.Lent.{Row, Lent, val, slice}
-use Rattle.lent_segments.proofs.Slices.{local, floats, shut, opens, closes, float_out, float-put, numbers, number-out, number-back}
-use Rattle.lent_segments.proofs.Spots.{spot-vals, spots-vals, spots-mach, spots-ty, spots-tell, spots-lawful, spots-apart, spots-whole}
+use Rattle.lent_segments.proofs.Slices.{local, floats, shut, opens, closes, float-out, float-put, numbers, number-out, number_back}
+use Rattle.lent_segments.proofs.Spots.{spot_vals, spots_vals, spots_mach, spots_ty, spots_tell, spots_lawful, spots_apart, spots_whole}
 use Rattle.lent_segments.specs.contracts.ends as callee
 use Rattle.lent_segments.proofs.ends.Symbol as callee-def
 use Rattle.lent_segments.proofs.ends.Symbol.{name as #callee}
@@ -133,12 +133,12 @@ the-upper s = s.upper
 abbrev the-slope : Segment → Float
 the-slope s = s.slope
 
--- what `stateAt` has past the end
+-- what `state_at` has past the end
 abbrev no-spot : Spot
 no-spot = record { state = Held-at 0 }
 
 abbrev spelled : (κs : Lfts 5) → Spells (types_at (this.signature).params κs)
-spelled κs = (shr_slice_vals, (spots-vals, (shr_slice_vals, (shr_slice_vals, (shr_slice_vals, (shr_slice_vals, tt))))))
+spelled κs = (shr_slice_vals, (spots_vals, (shr_slice_vals, (shr_slice_vals, (shr_slice_vals, (shr_slice_vals, tt))))))
 
 -- how a test came out
 by-test : {X : Type 1} (b : Bool) → (Holds b → X) → (Holds (not b) → X) → X
@@ -194,7 +194,7 @@ module _ {M : Type 1} {𝓤 : Ura M} (𝓛 : Logic 𝓤) (at_mem : Memory → SP
     spot t = get_or state (nth t) no-spot
 
     abbrev segment : ℕ → Segment
-    segment t = segmentIn (segmentsAt segments.now (nth t)) (spot t).state
+    segment t = segment_in (segments_at segments.now (nth t)) (spot t).state
 
     -- what is written after t turns
     abbrev written : (Segment → Float) → Bor (List Float) → ℕ → List Float
@@ -210,14 +210,14 @@ module _ {M : Type 1} {𝓤 : Ura M} (𝓛 : Logic 𝓤) (at_mem : Memory → SP
     slopes = written the-slope slope
 
     as_long : (read : Segment → Float) (x : Bor (List Float)) → n ≤ length x.now → (t : ℕ) → t ≤ n → length (written read x t) ≡ length x.now
-    as_long read x l t few = read_length read indices.now segments.now state x.now t (omega (arith, few, l))
+    as_long read x l t few = read-length read indices.now segments.now state x.now t (omega (arith, few, l))
 
     has : (read : Segment → Float) (x : Bor (List Float)) → n ≤ length x.now → (t : ℕ) → t < n → t < length (written read x t)
     has read x l t less = omega (arith, less, l, as_long read x l t (omega (arith, less)))
 
     abbrev to-callee : ℕ → Callee.Ghost
     to-callee t =
-        (((κs.0, tt), (qs.0, tt), tt, (segments, (nth t, (spot t, tt))), (val segments, (uint_vals w64 (nth t), (spot-vals (spot t), tt)))), tt)
+        (((κs.0, tt), (qs.0, tt), tt, (segments, (nth t, (spot t, tt))), (val segments, (uint_vals w64 (nth t), (spot_vals (spot t), tt)))), tt)
 
     abbrev Upto : Type 0
     Upto = (t : ℕ) × (t ≤ n)
@@ -237,8 +237,8 @@ module _ {M : Type 1} {𝓤 : Ura M} (𝓛 : Logic 𝓤) (at_mem : Memory → SP
       module _ (l₀ l₁ l₂ l₃ l₄ l₅ l₆ l₇ l₈ l₉ l₁₀ l₁₁ l₁₂ l₁₃ l₁₄ l₁₅ l₁₆ l₁₇ l₁₈ l₁₉ l₂₀ l₂₁ : ℕ) where
         abbrev En : Env 𝓤 H
         En =
-            (ty_unit, l₀) ∷ (segments-ty, l₁) ∷ (spots-ty, l₂) ∷ (indices-ty, l₃) ∷ (floats-ty 2, l₄) ∷ (floats-ty 3, l₅) ∷ (floats-ty 4, l₆) ∷
-            (spots-ty, l₇) ∷ (word, l₈) ∷ (word, l₉) ∷ (O'.mir, l₁₀) ∷ (word, l₁₁) ∷ (ty_bool, l₁₂) ∷ (word, l₁₃) ∷ (ty_ptr, l₁₄) ∷ (word, l₁₅) ∷
+            (ty_unit, l₀) ∷ (segments-ty, l₁) ∷ (spots_ty, l₂) ∷ (indices-ty, l₃) ∷ (floats-ty 2, l₄) ∷ (floats-ty 3, l₅) ∷ (floats-ty 4, l₆) ∷
+            (spots_ty, l₇) ∷ (word, l₈) ∷ (word, l₉) ∷ (O'.mir, l₁₀) ∷ (word, l₁₁) ∷ (ty_bool, l₁₂) ∷ (word, l₁₃) ∷ (ty_ptr, l₁₄) ∷ (word, l₁₅) ∷
             (ty_ptr, l₁₆) ∷ (ty_ptr, l₁₇) ∷ (S'.mir, l₁₈) ∷ (ty_ptr, l₁₉) ∷ (ty_ptr, l₂₀) ∷ (ty_ptr, l₂₁) ∷ []
 
         -- at the start of a turn: the states; lower's elements, and what shuts it; upper's; slope's; the records, and their token; the numbers, and
@@ -254,12 +254,12 @@ module _ {M : Type 1} {𝓤 : Ura M} (𝓛 : Logic 𝓤) (at_mem : Memory → SP
             ‵ (froom word l₁₅ 0) ∷ ‵ (fdies word l₁₅) ∷ ‵ (froom ty_ptr l₁₄ 0) ∷ ‵ (fdies ty_ptr l₁₄) ∷ ‵ (froom word l₁₃ 0) ∷ ‵ (fdies word l₁₃) ∷
             ‵ (froom ty_bool l₁₂ 0) ∷ ‵ (fdies ty_bool l₁₂) ∷ ‵ (fat full_share word l₁₁ 0 (vint w64 n)) ∷ ‵ (fdies word l₁₁) ∷
             ‵ (froom O'.mir l₁₀ 0) ∷ ‵ (fdies O'.mir l₁₀) ∷ ‵ (froom word l₉ 0) ∷ ‵ (fdies word l₉) ∷
-            ‵ (fat full_share word l₈ 0 (vint w64 i.0)) ∷ ‵ (fdies word l₈) ∷ ‵ (fdies spots-ty l₇) ∷
+            ‵ (fat full_share word l₈ 0 (vint w64 i.0)) ∷ ‵ (fdies word l₈) ∷ ‵ (fdies spots_ty l₇) ∷
             ‵ (fat full_share (floats-ty 4) l₆ 0 (slice_val slope.ref_ptr (length slope.now))) ∷ ‵ (fdies (floats-ty 4) l₆) ∷
             ‵ (fat full_share (floats-ty 3) l₅ 0 (slice_val upper.ref_ptr (length upper.now))) ∷ ‵ (fdies (floats-ty 3) l₅) ∷
             ‵ (fat full_share (floats-ty 2) l₄ 0 (slice_val lower.ref_ptr (length lower.now))) ∷ ‵ (fdies (floats-ty 2) l₄) ∷
             ‵ (fat full_share indices-ty l₃ 0 (slice_val indices.ptr n)) ∷ ‵ (fdies indices-ty l₃) ∷
-            ‵ (fat full_share spots-ty l₂ 0 (spots-mach state)) ∷ ‵ (fdies spots-ty l₂) ∷
+            ‵ (fat full_share spots_ty l₂ 0 (spots_mach state)) ∷ ‵ (fdies spots_ty l₂) ∷
             ‵ (fat full_share segments-ty l₁ 0 (slice_val segments.ref_ptr (length segments.now))) ∷ ‵ (fdies segments-ty l₁) ∷
             ‵ (froom ty_unit l₀ 0) ∷ ‵ (fdies ty_unit l₀) ∷ []
 
@@ -292,22 +292,22 @@ module _ {M : Type 1} {𝓤 : Ura M} (𝓛 : Logic 𝓤) (at_mem : Memory → SP
             assigns ! (of_opd ! (load ! (from ! (hop ! (look ! 25 refl) (stop !))) (look ! 0 refl))) (from ! (stop !))
             (init ! 23 refl (tt, record { fits = g })) $
             assigns ! (of_opd ! (local ! 23 refl)) (from ! (stop !)) (init ! 35 refl (tt, record { fits = g })) $
-            number-back ! tt q' indices t less $
+            number_back ! tt q' indices t less $
             -- state[i]
             assigns ! (bin ! (local ! 35 refl) (lit ! tt) spot-fits) (from ! (stop !)) (store ! 27 refl (tt, spot-fits)) $
             assigns ! (addr ! (from ! (stop !))) (from ! (stop !)) (init ! 21 refl (tt, tt)) $
             assigns ! (bin ! (local ! 21 refl) (local ! 27 refl) tt) (from ! (stop !)) (init ! 19 refl (tt, tt)) $
             rewrite ! 19 (λ (p : ℕ). ‵ (fat full_share ty_ptr l₁₇ 0 (vptr l₇ p))) (sym (place_is 16 0 (nth t))) refl $ move ! (2 ∷ []) $
-            elem_out ! S.the_row (Is S.the_row) (shows 𝓛 S.the_row) spot-vals (LL.tells S.the_type S'.the_laws) full_share state (nth t) no-spot
+            elem_out ! S.the_row (Is S.the_row) (shows 𝓛 S.the_row) spot_vals (LL.tells S.the_type S'.the_laws) full_share state (nth t) no-spot
             l₇ 0 within (λ is-spot.
             assigns ! (of_opd ! (load ! (from ! (hop ! (look ! 21 refl) (stop !))) (look_raw ! 0 refl))) (from ! (stop !))
             (init ! 19 refl ((LL.lawful S.the_type S'.the_laws 𝓛).typed (spot t) _ is-spot).0) $
-            elem_back ! S.the_row full_share state (nth t) no-spot (spot-vals (spot t)) l₇ 0 within $
+            elem_back ! S.the_row full_share state (nth t) no-spot (spot_vals (spot t)) l₇ 0 within $
             -- the segment: the slice is copied for the call
             move ! (9 ∷ []) $
             use1 𝓛 (‵ (slice κs.0 segments) ⊛ ‵ (slice κs.0 segments))
             ((shr_slice_copy 𝓛 (named 0) κs.0 Row).twice segments (val segments)) $ split ! $
-            owned-all ! (usize ∷ S.the_row ∷ []) (uint_Makes 𝓛 w64, (LL.makes S.the_type S'.the_plain 𝓛, tt))
+            owned_all ! (usize ∷ S.the_row ∷ []) (uint_Makes 𝓛 w64, (LL.makes S.the_type S'.the_plain 𝓛, tt))
             (to-callee t).0.3.1 (to-callee t).0.4.1 ((refl, g), (is-spot, tt)) $ move ! (1 ∷ 0 ∷ []) $ fjoin ! $ move ! (11 ∷ []) $
             asks ! (omega (arith, few, p.1), p.0.inside t less) $ use1 𝓛 (raw (Callee.pre (to-callee t))) (id⊢ 𝓤 _) $
             calls_at ! (fm_of 𝓤 H 𝓛.laws 𝓣) Callee known (to-callee t)
@@ -326,33 +326,33 @@ module _ {M : Type 1} {𝓤 : Ura M} (𝓛 : Logic 𝓤) (at_mem : Memory → SP
             (init ! 15 refl (tt, tt)) $
             rewrite ! 15 (λ (p : ℕ). ‵ (fat full_share ty_ptr l₁₉ 0 (vptr lower.ptr.0 p))) (sym (place_is 8 lower.ptr.1 t)) refl $
             move ! (5 ∷ []) $
-            float_out ! lower (lowers t) t (has the-lower lower p.2 t less) $
+            float-out ! lower (lowers t) t (has the-lower lower p.2 t less) $
             assigns ! (of_opd ! (load ! (from ! (fld ! refl (stop !))) (look_in ! 34 (sub ! 0 refl (whole !)))))
             (from ! (hop ! (look ! 16 refl) (stop !))) (store ! 0 refl (tt, typed.0)) $
             float-put ! lower (lowers t) t (segment t).lower (has the-lower lower p.2 t less) typed.0
-            (read-turn the-lower indices.now segments.now state lower.now t (omega (arith, less, p.2))) $
+            (read_turn the-lower indices.now segments.now state lower.now t (omega (arith, less, p.2))) $
             -- upper[t]
             assigns ! (bin ! (local ! 37 refl) (lit ! tt) fits) (from ! (stop !)) (store ! 27 refl (tt, fits)) $
             assigns ! (bin ! (load ! (from ! (fld ! refl (stop !))) (look_in ! 42 (sub ! 0 refl (whole !)))) (local ! 27 refl) tt) (from ! (stop !))
             (init ! 13 refl (tt, tt)) $
             rewrite ! 13 (λ (p : ℕ). ‵ (fat full_share ty_ptr l₂₀ 0 (vptr upper.ptr.0 p))) (sym (place_is 8 upper.ptr.1 t)) refl $
             move ! (7 ∷ []) $
-            float_out ! upper (uppers t) t (has the-upper upper p.3 t less) $
+            float-out ! upper (uppers t) t (has the-upper upper p.3 t less) $
             assigns ! (of_opd ! (load ! (from ! (fld ! refl (stop !))) (look_in ! 34 (sub ! 1 refl (whole !)))))
             (from ! (hop ! (look ! 14 refl) (stop !))) (store ! 0 refl (tt, typed.1.0)) $
             float-put ! upper (uppers t) t (segment t).upper (has the-upper upper p.3 t less) typed.1.0
-            (read-turn the-upper indices.now segments.now state upper.now t (omega (arith, less, p.3))) $
+            (read_turn the-upper indices.now segments.now state upper.now t (omega (arith, less, p.3))) $
             -- slope[t]
             assigns ! (bin ! (local ! 37 refl) (lit ! tt) fits) (from ! (stop !)) (store ! 23 refl (tt, fits)) $
             assigns ! (bin ! (load ! (from ! (fld ! refl (stop !))) (look_in ! 40 (sub ! 0 refl (whole !)))) (local ! 23 refl) tt) (from ! (stop !))
             (init ! 11 refl (tt, tt)) $
             rewrite ! 11 (λ (p : ℕ). ‵ (fat full_share ty_ptr l₂₁ 0 (vptr slope.ptr.0 p))) (sym (place_is 8 slope.ptr.1 t)) refl $
             move ! (9 ∷ []) $
-            float_out ! slope (slopes t) t (has the-slope slope p.4 t less) $
+            float-out ! slope (slopes t) t (has the-slope slope p.4 t less) $
             assigns ! (of_opd ! (load ! (from ! (fld ! refl (stop !))) (look_in ! 34 (sub ! 2 refl (whole !)))))
             (from ! (hop ! (look ! 12 refl) (stop !))) (store ! 0 refl (tt, typed.1.1.0)) $
             float-put ! slope (slopes t) t (segment t).slope (has the-slope slope p.4 t less) typed.1.1.0
-            (read-turn the-slope indices.now segments.now state slope.now t (omega (arith, less, p.4))) $
+            (read_turn the-slope indices.now segments.now state slope.now t (omega (arith, less, p.4))) $
             -- the next
             assigns_last ! (bin ! (local ! 37 refl) (lit ! tt) next_fits) (from ! (stop !)) (store ! 37 refl (tt, next_fits)) $ forget ! 35 refl $
             forget ! 33 refl $ forget ! 29 refl $ forget ! 27 refl $ forget ! 25 refl $ forget ! 23 refl $ forget ! 21 refl $ forget ! 19 refl $
@@ -372,7 +372,7 @@ module _ {M : Type 1} {𝓤 : Ura M} (𝓛 : Logic 𝓤) (at_mem : Memory → SP
             closes ! tt lower (lowers t) (as_long the-lower lower p.2 t i.1) $ move ! (3 ∷ 4 ∷ []) $
             closes ! tt upper (uppers t) (as_long the-upper upper p.3 t i.1) $ move ! (5 ∷ 6 ∷ []) $
             closes ! tt slope (slopes t) (as_long the-slope slope p.4 t i.1) $ move ! (6 ∷ []) $
-            spots-whole ! state are.1.0 l₇ $
+            spots_whole ! state are.1.0 l₇ $
             -- [_7; what is said of slope, its token; of upper; of lower; the records, their token; the numbers, theirs; _21; …; _7's end; … ; _0; …]
             returns ! (look ! 52 refl) $ forget ! 52 refl $ forget ! 50 refl $ forget ! 48 refl $ forget ! 46 refl $ forget ! 44 refl $
             forget ! 42 refl $ forget ! 40 refl $ forget ! 0 refl $ forget ! 37 refl $ forget ! 31 refl $ forget ! 29 refl $
@@ -402,7 +402,7 @@ module _ {M : Type 1} {𝓤 : Ura M} (𝓛 : Logic 𝓤) (at_mem : Memory → SP
       -- up to the loop
       walk : ent 𝓤 (on_entry 𝓛 this.signature κs qs a at) (WpFn 𝓤 H 𝓣.C 𝓣.Λ code.function (Mine.args mine) (Mine.post mine))
       walk =
-          let state-typed = ((spots-lawful 𝓛).typed state _ are.1.0).0 in
+          let state-typed = ((spots_lawful 𝓛).typed state _ are.1.0).0 in
           qed 𝓛 ((‵ (flft κs.0 qs.0) ⊛ (‵ (flft κs.1.0 qs.1.0) ⊛ (‵ (flft κs.1.1.0 qs.1.1.0)
           ⊛ (‵ (flft κs.1.1.1.0 qs.1.1.1.0) ⊛ (‵ (flft κs.1.1.1.1.0 qs.1.1.1.1.0) ⊛ ‵ ftrue)))))
           ∷ ‵ (owns (types_at (this.signature).params κs) a at) ∷ []) ∵
@@ -424,10 +424,10 @@ module _ {M : Type 1} {𝓤 : Ura M} (𝓛 : Logic 𝓤) (at_mem : Memory → SP
           split ! $ move ! (5 ∷ 1 ∷ []) $ join ! $ move ! (49 ∷ []) $ fsplit ! $ move ! (1 ∷ []) $ fsplit ! $ drop ! $
           fsplit ! $ fsplit ! $ drop ! $ fsplit ! $ drop ! $ move ! (1 ∷ []) $ fsplit ! $ move ! (1 ∷ []) $ fsplit ! $ move ! (1 ∷ []) $ fsplit ! $
           move ! (1 ∷ []) $ drop ! $ move ! (2 ∷ 8 ∷ []) $
-          opens ! tt 2 lower (read_none the-lower indices.now segments.now state lower.now) $ move ! (3 ∷ 8 ∷ []) $
-          opens ! tt 3 upper (read_none the-upper indices.now segments.now state upper.now) $ move ! (4 ∷ 8 ∷ []) $
-          opens ! tt 4 slope (read_none the-slope indices.now segments.now state slope.now) $ move ! (38 ∷ []) $
-          spots-apart ! state are.1.0 l₇ $ move ! (0 ∷ 5 ∷ 6 ∷ 3 ∷ 4 ∷ 1 ∷ 2 ∷ 8 ∷ 9 ∷ 7 ∷ 10 ∷ []) $
+          opens ! tt 2 lower (read-none the-lower indices.now segments.now state lower.now) $ move ! (3 ∷ 8 ∷ []) $
+          opens ! tt 3 upper (read-none the-upper indices.now segments.now state upper.now) $ move ! (4 ∷ 8 ∷ []) $
+          opens ! tt 4 slope (read-none the-slope indices.now segments.now state slope.now) $ move ! (38 ∷ []) $
+          spots_apart ! state are.1.0 l₇ $ move ! (0 ∷ 5 ∷ 6 ∷ 3 ∷ 4 ∷ 1 ∷ 2 ∷ 8 ∷ 9 ∷ 7 ∷ 10 ∷ []) $
           looped l₀ l₁ l₂ l₃ l₄ l₅ l₆ l₇ l₈ l₉ l₁₀ l₁₁ l₁₂ l₁₃ l₁₄ l₁₅ l₁₆ l₁₇ l₁₈ l₁₉ l₂₀ l₂₁))))))))))))))))))))))
 
   meets : (𝓣 : Tables 𝓤 H) → Triple 𝓤 (𝓣.C #callee) Callee →
@@ -437,7 +437,7 @@ module _ {M : Type 1} {𝓤 : Ura M} (𝓛 : Logic 𝓤) (at_mem : Memory → SP
       (λ κs. (
         shr_slice_Tells (named 0) κs.0 Row,
         (
-          spots-tell,
+          spots_tell,
           (
             shr_slice_Tells (named 1) κs.1.0 usize,
             (

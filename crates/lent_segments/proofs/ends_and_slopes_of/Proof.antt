@@ -40,9 +40,9 @@ use denote.Triple.Walked.{needs}
 use Rattle.walks.specs.Walks.{Walked, ends, met, asks, answers}
 use Rattle.segments.specs.declared.Segments.{Segments}
 use Rattle.lent_segments.specs.Lent.{Listed}
-use Rattle.lent_segments.proofs.Lent.{val, vals, lentTy, room, tell, long, lent, records-lawful, lends-records, records-back}
+use Rattle.lent_segments.proofs.Lent.{val, vals, lent_ty, room, tell, long, lent, records_lawful, lends_records, records_back}
 use Rattle.lent_segments.proofs.Slices.{local}
-use Rattle.lent_segments.proofs.Spots.{spots-vals, spots-tell, spots-lawful}
+use Rattle.lent_segments.proofs.Spots.{spots_vals, spots_tell, spots_lawful}
 use Rattle.lent_segments.specs.contracts.ends_and_slopes as callee
 use Rattle.lent_segments.proofs.ends_and_slopes.Symbol as callee-def
 use Rattle.lent_segments.proofs.ends_and_slopes.Symbol.{name as #callee}
@@ -53,7 +53,7 @@ use Rattle.lent_segments.proofs.ends_and_slopes_of.Statement as stated
 use Rattle.lent_segments.proofs.ends_and_slopes_of.Code as code
 
 abbrev spelled : (κs : Lfts 4) → Spells (types_at (this.signature).params κs)
-spelled κs = (vals, (spots-vals, (shr_slice_vals, (shr_slice_vals, (shr_slice_vals, (shr_slice_vals, tt))))))
+spelled κs = (vals, (spots_vals, (shr_slice_vals, (shr_slice_vals, (shr_slice_vals, (shr_slice_vals, tt))))))
 
 module _ {M : Type 1} {𝓤 : Ura M} (𝓛 : Logic 𝓤) (at_mem : Memory → SProp 𝓤) (run : Routine → Fun 𝓤) where
   open 𝓛 use {H}
@@ -95,14 +95,14 @@ module _ {M : Type 1} {𝓤 : Ura M} (𝓛 : Logic 𝓤) (at_mem : Memory → SP
         enter ! 𝓣.C 𝓣.Λ code.function (Mine.args mine) _ $
         alloc1 ! (λ l₀. alloc1 ! (λ l₁. alloc1 ! (λ l₂. alloc1 ! (λ l₃. alloc1 ! (λ l₄. alloc1 ! (λ l₅. alloc1 ! (λ l₆. alloc1 ! (λ l₇.
         alloc1 ! (λ l₈. alloc1 ! (λ l₉. alloc1 ! (λ l₁₀. alloc1 ! (λ l₁₁. alloc1 ! (λ l₁₂. alloc1 ! (λ l₁₃. alloc1 ! (λ l₁₄. alloc1 ! (λ l₁₅.
-        alloc1 ! (λ l₁₆. alloc0 ! $ params1 ! $ pass1 ! (init ! 30 refl ((records-lawful 𝓛).typed xs _ g).0) $
-        pass1 ! (init ! 28 refl ((spots-lawful 𝓛).typed a.1.0 _ are.1.0).0) $
+        alloc1 ! (λ l₁₆. alloc0 ! $ params1 ! $ pass1 ! (init ! 30 refl ((records_lawful 𝓛).typed xs _ g).0) $
+        pass1 ! (init ! 28 refl ((spots_lawful 𝓛).typed a.1.0 _ are.1.0).0) $
         pass1 ! (init ! 26 refl (tt, (tt, (record { fits = indices-fit }, tt)))) $
         pass1 ! (init ! 24 refl (tt, (tt, (record { fits = lower-fits }, tt)))) $
         pass1 ! (init ! 22 refl (tt, (tt, (record { fits = upper_fits }, tt)))) $
         pass1 ! (init ! 20 refl (tt, (tt, (record { fits = slope-fits }, tt)))) $ pass0 ! $
         -- [_16; …; … ; _0; …; what the others own; their tokens]
-        assigns ! (of_opd ! (local ! 30 refl)) (from ! (stop !)) (init ! 18 refl ((records-lawful 𝓛).typed xs _ g).0) $
+        assigns ! (of_opd ! (local ! 30 refl)) (from ! (stop !)) (init ! 18 refl ((records_lawful 𝓛).typed xs _ g).0) $
         assigns ! (addr ! (from ! (stop !))) (from ! (stop !)) (init ! 14 refl (tt, tt)) $
         assigns ! (agg ! (and_then ! (local ! 14 refl) (and_then ! (lit ! tt) (no_more !)))) (from ! (stop !))
         (init ! 12 refl (tt, (tt, (record { fits = room.0 }, tt)))) $
@@ -119,8 +119,8 @@ module _ {M : Type 1} {𝓤 : Ura M} (𝓛 : Logic 𝓤) (at_mem : Memory → SP
         $
         assigns ! (agg ! (and_then ! (local ! 2 refl) (and_then ! (load ! (from ! (fld ! refl (stop !))) (look_in ! 20 (sub ! 1 refl (whole !))))
         (no_more !)))) (from ! (stop !)) (init ! 0 refl (tt, (tt, (record { fits = slope-fits }, tt)))) $
-        rewrite ! 12 (λ (n : ℕ). ‵ (fat full_share lentTy l₁₀ 0 (slice_val (l₇, 0) n))) (sym (long xs g)) refl $ move ! (18 ∷ []) $
-        lends-records ! tt xs g l₇ (λ α δ.
+        rewrite ! 12 (λ (n : ℕ). ‵ (fat full_share lent_ty l₁₀ 0 (slice_val (l₇, 0) n))) (sym (long xs g)) refl $ move ! (18 ∷ []) $
+        lends_records ! tt xs g l₇ (λ α δ.
         -- [the slice; its token; the lender's part; _16; …; … ; _8; …; _7's end; _6; …; … ; _0; …; what the others own; their tokens]
         move ! (0 ∷ 36 ∷ []) $ fjoin ! $ move ! (1 ∷ []) $ split ! $ move ! (1 ∷ []) $ drop ! $ move ! (0 ∷ 36 ∷ []) $ join ! $
         asks ! (p.0, omega (arith, long xs g), p.1, p.2, p.3) $ use1 𝓛 (raw (Callee.pre (to-callee α l₇ δ))) (id⊢ 𝓤 _) $
@@ -129,7 +129,7 @@ module _ {M : Type 1} {𝓤 : Ura M} (𝓛 : Logic 𝓤) (at_mem : Memory → SP
         (and_then ! (local ! 10 refl) (and_then ! (local ! 6 refl) (and_then ! (local ! 2 refl) (no_more !))))))) (λ v.
         answers ! tt callee.ended (callee.clauses 𝓛 at_mem run) (to-callee α l₇ δ) v (λ r ws unit. drop ! $
         use1 𝓛 (‵ (flft (α ∷ []) full_share) ⊛ raw others) (id⊢ 𝓤 _) $ split ! $ nothing ! $ move ! (1 ∷ 0 ∷ []) $ join ! $ move ! (0 ∷ 4 ∷ []) $
-        records-back ! tt xs g l₇ $
+        records_back ! tt xs g l₇ $
         -- [_7; the others' tokens; what is said of the last values; what is ensured; _16; …; … ; _8; …; _7's end; _6; …; … ; _0; …]
         land ! (from ! (stop !)) (init ! 20 refl ((Nothing-Lawful 𝓛).typed r (v ∷ []) unit).0) $
         assigns ! (of_opd ! (unit_lit !)) (from ! (stop !)) (init ! 35 refl (tt, tt)) $
@@ -150,7 +150,7 @@ module _ {M : Type 1} {𝓤 : Ura M} (𝓛 : Logic 𝓤) (at_mem : Memory → SP
       (λ κs. (
         tell,
         (
-          spots-tell,
+          spots_tell,
           (
             shr_slice_Tells (named 0) κs.0 usize,
             (

@@ -1,7 +1,7 @@
 use Rattle.folds.specs.Kit.{◌<◌, arith, kit}
 use Rattle.segments.specs.Segments.{last}
 use Rattle.segments.specs.Laws.{free-within}
-use Rattle.lent_segments.specs.Lent.{segmentOf, segmentIn}
+use Rattle.lent_segments.specs.Lent.{segment_of, segment_in}
 use Rattle.lent_segments.proofs.ends_in.Statement.{statement}
 use Rattle.lent_segments.proofs.ends_in.Tie as tie
 
@@ -10,7 +10,7 @@ within : (c : tie.After-segment-of) → c.segment-of.result < last c.before.args
 within c = free-within c.before.args.s _ c.segment-of.result c.segment-of.ensures c.before.requires.placed
 
 returns : tie.Need-returns
-unfolding segmentOf segmentIn
+unfolding segment_of segment_in
 returns c =
     let g = c.before.before.before in
     rw (g.segment-of.ensures, c.before.before.point.ensures, c.before.point2.ensures, c.slope.ensures)

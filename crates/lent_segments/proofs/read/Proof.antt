@@ -36,7 +36,7 @@ use denote.Triple.Table.{entered}
 use denote.Triple.Walked.{needs}
 use borrow.Author.Rules.{scaled_Fits}
 use Rattle.walks.specs.Walks.{Walked, ends, met, states, leaves}
-use Rattle.segments.specs.Segments.{segmentsAt}
+use Rattle.segments.specs.Segments.{segments_at}
 use Rattle.segments.specs.declared.Segments.{Segments}
 use Rattle.segments.specs.contracts.Segments as T
 use Rattle.segments.proofs.Segments.TheLaws as T'
@@ -46,7 +46,7 @@ use Rattle.lent_segments.specs.contracts.read as this
 use Rattle.lent_segments.proofs.read.Statement as stated
 use Rattle.lent_segments.proofs.read.Code as code
 
--- what `segmentsAt` has past the end
+-- what `segments_at` has past the end
 abbrev none : Segments
 none = record { points = []; slopes = []; count = 0 }
 
@@ -67,7 +67,7 @@ module _ {M : Type 1} {𝓤 : Ura M} (𝓛 : Logic 𝓤) (at_mem : Memory → SP
     mine = ((κs, qs, tt, a, at), tt)
 
     abbrev elem : Segments
-    elem = segmentsAt a.0.now a.1.0
+    elem = segments_at a.0.now a.1.0
 
     abbrev mach : Val
     mach = LL.tuple_val T.the_type T'.the_laws ((T.the_type).to elem)
@@ -103,7 +103,7 @@ module _ {M : Type 1} {𝓤 : Ura M} (𝓛 : Logic 𝓤) (at_mem : Memory → SP
         returns ! (look ! 16 refl) $ forget ! 6 refl $ forget ! 8 refl $ forget ! 10 refl $ forget ! 12 refl $ forget ! 14 refl $ forget ! 16 refl $
         move ! (16 ∷ 17 ∷ []) $ free1 ! $ move ! (14 ∷ 15 ∷ []) $ free1 ! $ move ! (12 ∷ 13 ∷ []) $ free1 ! $ move ! (10 ∷ 11 ∷ []) $ free1 ! $
         move ! (8 ∷ 9 ∷ []) $ free1 ! $ move ! (6 ∷ 7 ∷ []) $ free1 ! $ free0 ! $ keep ! (0 ∷ []) $ nothing ! $ move ! (1 ∷ 0 ∷ []) $ join ! $
-        states ! {φ = elem ≡ segmentsAt ys i} refl $ owned ! Row (Is Row) (LL.makes T.the_type T'.the_plain 𝓛) elem _ g $
+        states ! {φ = elem ≡ segments_at ys i} refl $ owned ! Row (Is Row) (LL.makes T.the_type T'.the_plain 𝓛) elem _ g $
         leaves ! 2 $ by ! (ends 𝓛 this.ended (this.clauses 𝓛 at_mem run) mine mach elem (tt, (tt, tt)))))))))))
 
   meets : (𝓣 : Tables 𝓤 H) → Meets 𝓛 this.signature (WpFn 𝓤 H 𝓣.C 𝓣.Λ code.function) (this.spec 𝓛 at_mem run)

@@ -5,16 +5,16 @@ use mir.Val.{to_z, of_z}
 use Rattle.block.specs.Block.{word}
 use Rattle.block.specs.Plan.{time}
 use Rattle.format.specs.Structs.{block_of, word_at}
-use Rattle.exact.specs.Planned.{of_word}
-use Rattle.listing.specs.Listing.{word_line, wordLines}
-use Rattle.listing.specs.Appended.{Appended, room_as, appended-as}
-use Rattle.listing.specs.Laws.{lines_none, room-line, lines-turn}
+use Rattle.exact.specs.Planned.{of-word}
+use Rattle.listing.specs.Listing.{word_line, word_lines}
+use Rattle.listing.specs.Appended.{Appended, room_as, appended_as}
+use Rattle.listing.specs.Laws.{lines_none, room-line, lines_turn}
 use Rattle.listing.proofs.put_words.Statement.{statement}
 use Rattle.listing.proofs.put_words.Tie as tie
 
 abbrev invariant-loop : tie.invariant-loop
 invariant-loop out₀ at times b end₀ n i₀ out end i =
-    (i ≤ b.words) × (length out ≡ length out₀) × Appended at (wordLines i (block_of b) times) out₀ end out
+    (i ≤ b.words) × (length out ≡ length out₀) × Appended at (word_lines i (block_of b) times) out₀ end out
 
 abbrev decreases-loop : tie.decreases-loop
 decreases-loop out₀ at times b end₀ n i₀ out end i = b.words - i
@@ -35,7 +35,7 @@ module _ (c : tie.After-time-at invariant-loop decreases-loop) where
 
   same : word_line i (word_at a.args.t3 i).key (to_z w64 (of_z w64 c.time-at.result))
       ≡ word_line i (word (block_of a.args.t3) i).key (time a.args.times.now i)
-  same = of_word a.pre.0 more c.time-at.ensures (λ w z. word_line i w.key z) refl
+  same = of-word a.pre.0 more c.time-at.ensures (λ w z. word_line i w.key z) refl
 
 pub put-words-spec : {M : Type 1} → statement M
 put-words-spec =
@@ -51,9 +51,9 @@ put-words-spec =
     (λ c.
     let p = c.before.before in
     let d = p.before in
-    (search needs, search needs, lines-turn _ _ (a d).requires.1 (more d) (t d).loop.invariant.2 (appended-as (same d) p.put_word.ensures)))
+    (search needs, search needs, lines_turn _ _ (a d).requires.1 (more d) (t d).loop.invariant.2 (appended_as (same d) p.put_word.ensures)))
     (λ c. c.before.loop.invariant.1)
     (λ c.
     let a = c.before.before.before.args in
-    appended-as (ap (λ (n : ℕ). wordLines n (block_of a.t3) a.times.now) (le_antisymm c.before.loop.invariant.0 c.loop-test.false))
+    appended_as (ap (λ (n : ℕ). word_lines n (block_of a.t3) a.times.now) (le_antisymm c.before.loop.invariant.0 c.loop-test.false))
     c.before.loop.invariant.2))

@@ -1,7 +1,7 @@
-use Rattle.folds.specs.Kit.{◌≡◌, ◌-◌, ◌≤◌, arith, fold, fold-call, kit}
+use Rattle.folds.specs.Kit.{◌≡◌, ◌-◌, ◌≤◌, arith, fold, fold_call, kit}
 use Rattle.arith.specs.Float.{fadd, fmul, f0}
 use Rattle.columns.specs.Columns.{cell}
-use Rattle.matrix.specs.Matrix.{cellDot}
+use Rattle.matrix.specs.Matrix.{cell_dot}
 use Rattle.matrix.proofs.cell_dot.Statement.{statement}
 use Rattle.matrix.proofs.cell_dot.Tie as tie
 
@@ -12,9 +12,9 @@ abbrev decreases-loop : tie.decreases-loop
 decreases-loop a n p b m i j s₀ k₀ s k = p - k
 
 pub cell-dot-spec : {M : Type 1} → statement M
-unfolding cellDot
+unfolding cell_dot
 cell-dot-spec =
     tie.close
     (tie.spec invariant-loop decreases-loop (λ c. search kit) (λ c κs. search kit) (λ c κs. search kit) (λ c. search kit) (λ c. search kit)
-    (λ c. (omega arith, fold-call _ _ _ c.before.before.before.loop.invariant.1 (rw (c.before.get.ensures, c.get2.ensures))))  -- loop-again
+    (λ c. (omega arith, fold_call _ _ _ c.before.before.before.loop.invariant.1 (rw (c.before.get.ensures, c.get2.ensures))))  -- loop-again
     (λ c. search kit))  -- returns

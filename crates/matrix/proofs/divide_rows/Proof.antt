@@ -1,27 +1,27 @@
 use Rattle.folds.specs.Kit.{◌≡◌, ◌-◌, ◌≤◌, arith, length, fold}
 use Rattle.arith.specs.Float.{fdiv, at}
-use Rattle.columns.specs.Columns.{cell, putColumn}
-use Rattle.matrix.specs.Matrix.{rowsDivided}
-use Rattle.columns.specs.Laws.{columns-edit, matrix-kit}
+use Rattle.columns.specs.Columns.{cell, put_column}
+use Rattle.matrix.specs.Matrix.{rows_divided}
+use Rattle.columns.specs.Laws.{columns_edit, matrix-kit}
 use Rattle.matrix.proofs.divide_rows.Statement.{statement}
 use Rattle.matrix.proofs.divide_rows.Tie as tie
 
 abbrev invariant-loop : tie.invariant-loop
 invariant-loop a₀ n m by j₀ a j =
-    (j ≤ m) × (length a ≡ length a₀) × (a ≡ fold j (λ t l. putColumn n n t (λ i. fdiv (cell a₀ n i t) (at by i)) l) a₀)
+    (j ≤ m) × (length a ≡ length a₀) × (a ≡ fold j (λ t l. put_column n n t (λ i. fdiv (cell a₀ n i t) (at by i)) l) a₀)
 
 abbrev decreases-loop : tie.decreases-loop
 decreases-loop a₀ n m by j₀ a j = m - j
 
 pub divide-rows-spec : {M : Type 1} → statement M
-unfolding rowsDivided
+unfolding rows_divided
 divide-rows-spec =
     tie.close
     (tie.spec invariant-loop decreases-loop (λ c. search matrix-kit) (λ c κs. search matrix-kit) (λ c. search matrix-kit) (λ c. search matrix-kit)
     (λ c. let k = c.before.before.before.before.before in let x = k.before.before.before.args in (
       omega arith,
       omega arith,
-      columns-edit _ (λ i t v. fdiv v (at x.by.now i)) x.a.now _ k.loop.invariant.2 c.before.before.divide-rows-column.ensures,
+      columns_edit _ (λ i t v. fdiv v (at x.by.now i)) x.a.now _ k.loop.invariant.2 c.before.before.divide-rows-column.ensures,
     ))  -- loop-again
     (λ c. search matrix-kit)
     (λ c. search matrix-kit))  -- returns

@@ -1,12 +1,12 @@
 use Rattle.folds.specs.Kit.{◌≡◌, ◌-◌, ◌≤◌, length, fold}
-use Rattle.columns.specs.Columns.{putColumn}
+use Rattle.columns.specs.Columns.{put_column}
 use Rattle.columns.specs.Laws.{matrix-kit}
 use Rattle.matrix.specs.Matrix.{unit, identity}
 use Rattle.matrix.proofs.identity.Statement.{statement}
 use Rattle.matrix.proofs.identity.Tie as tie
 
 abbrev invariant-loop : tie.invariant-loop
-invariant-loop a₀ n j₀ a j = (j ≤ n) × (length a ≡ length a₀) × (a ≡ fold j (λ t l. putColumn n n t (λ i. unit i t) l) a₀)
+invariant-loop a₀ n j₀ a j = (j ≤ n) × (length a ≡ length a₀) × (a ≡ fold j (λ t l. put_column n n t (λ i. unit i t) l) a₀)
 
 abbrev decreases-loop : tie.decreases-loop
 decreases-loop a₀ n j₀ a j = n - j

@@ -1,12 +1,12 @@
 use Rattle.folds.specs.Kit.{◌≡◌, ◌-◌, ◌≤◌, length, fold}
-use Rattle.columns.specs.Columns.{putColumn}
+use Rattle.columns.specs.Columns.{put_column}
 use Rattle.columns.specs.Laws.{matrix-kit}
-use Rattle.matrix.specs.Matrix.{cellDot, mul}
+use Rattle.matrix.specs.Matrix.{cell_dot, mul}
 use Rattle.matrix.proofs.mul.Statement.{statement}
 use Rattle.matrix.proofs.mul.Tie as tie
 
 abbrev invariant-loop : tie.invariant-loop
-invariant-loop a n p b m c₀ j₀ c j = (j ≤ m) × (length c ≡ length c₀) × (c ≡ fold j (λ t l. putColumn n n t (λ i. cellDot n p a b i t) l) c₀)
+invariant-loop a n p b m c₀ j₀ c j = (j ≤ m) × (length c ≡ length c₀) × (c ≡ fold j (λ t l. put_column n n t (λ i. cell_dot n p a b i t) l) c₀)
 
 abbrev decreases-loop : tie.decreases-loop
 decreases-loop a n p b m c₀ j₀ c j = m - j

@@ -1,12 +1,12 @@
 use Rattle.folds.specs.Kit.{◌≡◌, ◌-◌, ◌≤◌, arith, length}
-use Rattle.columns.specs.Columns.{putColumn}
-use Rattle.columns.specs.Laws.{column-call, column-kit}
-use Rattle.matrix.specs.Matrix.{cellDot}
+use Rattle.columns.specs.Columns.{put_column}
+use Rattle.columns.specs.Laws.{column_call, column-kit}
+use Rattle.matrix.specs.Matrix.{cell_dot}
 use Rattle.matrix.proofs.mul_column.Statement.{statement}
 use Rattle.matrix.proofs.mul_column.Tie as tie
 
 abbrev invariant-loop : tie.invariant-loop
-invariant-loop a n p b m j c₀ i₀ c i = (i ≤ n) × (length c ≡ length c₀) × (c ≡ putColumn i n j (λ t. cellDot n p a b t j) c₀)
+invariant-loop a n p b m j c₀ i₀ c i = (i ≤ n) × (length c ≡ length c₀) × (c ≡ put_column i n j (λ t. cell_dot n p a b t j) c₀)
 
 abbrev decreases-loop : tie.decreases-loop
 decreases-loop a n p b m j c₀ i₀ c i = n - i
@@ -16,6 +16,6 @@ mul-column-spec =
     tie.close
     (tie.spec invariant-loop decreases-loop (λ c. search column-kit) (λ c κs. search column-kit) (λ c κs. search column-kit) (λ c. search column-kit) (λ c. search column-kit)
     (λ c. let p = c.before.before in let at = p.before.before.before.before.loop in
-    (omega arith, omega arith, column-call _ _ _ _ _ at.invariant.2 (rw (p.put.ensures, p.before.before.cell-dot.ensures))))  -- loop-again
+    (omega arith, omega arith, column_call _ _ _ _ _ at.invariant.2 (rw (p.put.ensures, p.before.before.cell-dot.ensures))))  -- loop-again
     (λ c. search column-kit)
     (λ c. search column-kit))  -- returns

@@ -1,18 +1,18 @@
 use Rattle.folds.specs.Kit.{◌≡◌, ◌-◌, ◌≤◌, length, fold}
-use Rattle.columns.specs.Columns.{putColumn}
+use Rattle.columns.specs.Columns.{put_column}
 use Rattle.columns.specs.Laws.{matrix-kit}
-use Rattle.matrix.specs.Matrix.{columnsDot, trMul}
+use Rattle.matrix.specs.Matrix.{columns_dot, tr_mul}
 use Rattle.matrix.proofs.tr_mul.Statement.{statement}
 use Rattle.matrix.proofs.tr_mul.Tie as tie
 
 abbrev invariant-loop : tie.invariant-loop
-invariant-loop a n p b m c₀ j₀ c j = (j ≤ m) × (length c ≡ length c₀) × (c ≡ fold j (λ t l. putColumn p p t (λ i. columnsDot n a b i t) l) c₀)
+invariant-loop a n p b m c₀ j₀ c j = (j ≤ m) × (length c ≡ length c₀) × (c ≡ fold j (λ t l. put_column p p t (λ i. columns_dot n a b i t) l) c₀)
 
 abbrev decreases-loop : tie.decreases-loop
 decreases-loop a n p b m c₀ j₀ c j = m - j
 
 pub tr-mul-spec : {M : Type 1} → statement M
-unfolding trMul
+unfolding tr_mul
 tr-mul-spec =
     tie.close
     (tie.spec invariant-loop decreases-loop (λ c. search matrix-kit) (λ c κs. search matrix-kit) (λ c. search matrix-kit) (λ c. search matrix-kit)

@@ -1,4 +1,4 @@
-use Rattle.folds.specs.Kit.{◌≡◌, ◌-◌, ◌≤◌, arith, fold, fold-call, kit}
+use Rattle.folds.specs.Kit.{◌≡◌, ◌-◌, ◌≤◌, arith, fold, fold_call, kit}
 use Rattle.arith.specs.Float.{fadd, f0}
 use Rattle.columns.specs.Columns.{cell}
 use Rattle.matrix.specs.Matrix.{trace}
@@ -16,5 +16,5 @@ unfolding trace
 trace-spec =
     tie.close
     (tie.spec invariant-loop decreases-loop (λ c. search kit) (λ c κs. search kit) (λ c. search kit) (λ c. search kit)
-    (λ c. (omega arith, fold-call _ _ _ c.before.before.loop.invariant.1 (rw c.get.ensures)))  -- loop-again
+    (λ c. (omega arith, fold_call _ _ _ c.before.before.loop.invariant.1 (rw c.get.ensures)))  -- loop-again
     (λ c. search kit))  -- returns

@@ -1,10 +1,10 @@
 use borrow.Author.Rules.{rules}
-use Rattle.minimum.specs.Counted.{goesOn}
+use Rattle.minimum.specs.Counted.{goes_on}
 use Rattle.minimum.proofs.goes_on.Statement.{statement}
 use Rattle.minimum.proofs.goes_on.Tie as tie
 
 pub goes-on-spec : {M : Type 1} → statement M
-unfolding goesOn
+unfolding goes_on
 goes-on-spec =
     tie.close
     (tie.spec

@@ -1,7 +1,7 @@
 use Rattle.folds.specs.Kit.{sym, ◌∙◌, arith, needs}
 use lib.Seq.{length-take-le}
 use Rattle.folds.specs.Tab.{taken-over}
-use Rattle.vector.specs.Laws.{length-addScalar}
+use Rattle.vector.specs.Laws.{length-add_scalar}
 use Rattle.multiplier.specs.Ready.{holds}
 use Rattle.multiplier.specs.Search.{solve}
 use Rattle.multiplier.proofs.solve_raised.Statement.{statement}
@@ -20,13 +20,13 @@ solve-shaped-requires : tie.Need-solve-shaped-requires
 solve-shaped-requires c κs =
     let p = (start c.before).requires in (
       holds p (omega (arith, slice-aggregate-solve-shaped c.before)) (omega (arith, slice-aggregate-solve-shaped-2 c)),
-      p.q-holds,
-      p.e-holds,
+      p.q_holds,
+      p.e_holds,
     )
 
 returns : tie.Need-returns
 unfolding solve
-returns c = c.solve-shaped.ensures ∙ rw (taken-over _ _ (length-addScalar _ _ _) c.before.before.before.before.add-scalar.ensures)
+returns c = c.solve-shaped.ensures ∙ rw (taken-over _ _ (length-add_scalar _ _ _) c.before.before.before.before.add-scalar.ensures)
 
 pub solve-raised-spec : {M : Type 1} → statement M
 solve-raised-spec =

@@ -4,7 +4,7 @@ use mathlib.Core.Path.{subst}
 use native.Mathlib.Nat.{div-le_self, lt_of_le_of_lt, mod-lt, mul_comm}
 use native.Mathlib.Omega.{arith}
 use borrow.Author.Rules.{rules}
-use Rattle.nearest.specs.Pattern.{half_of, whole_is, whole_pos, whole-fits}
+use Rattle.nearest.specs.Pattern.{half_of, whole-is, whole_pos, whole-fits}
 use Rattle.nearest.proofs.Sizes.{shifted-is}
 use Rattle.nearest.proofs.shifted.Statement.{statement}
 use Rattle.nearest.proofs.shifted.Tie as tie
@@ -26,5 +26,5 @@ shifted-spec =
     ))  -- nearer-requires
     (λ c.
     let s = c.before in
-    shifted-is s.args.d s.args.k (half_of s.args.k) c.nearer.result (whole_is s.args.k s.requires.1 (omega (arith, s.requires.2)))
+    shifted-is s.args.d s.args.k (half_of s.args.k) c.nearer.result (whole-is s.args.k s.requires.1 (omega (arith, s.requires.2)))
     c.nearer.ensures))  -- returns

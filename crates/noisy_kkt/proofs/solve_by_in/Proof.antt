@@ -2,9 +2,9 @@ use Rattle.folds.specs.Kit.{◌≤◌, refl, sym, ◌∙◌, arith, length, need
 use lib.Seq.{length-take-le}
 use Rattle.folds.specs.Tab.{taken-over}
 use Rattle.vector.specs.Laws.{length-divided}
-use Rattle.matrix.specs.Laws.{length-columnsDivided}
-use Rattle.solution.specs.Laws.{solution-answer}
-use Rattle.noisy_kkt.specs.Laws.{by-from}
+use Rattle.matrix.specs.Laws.{length-columns_divided}
+use Rattle.solution.specs.Laws.{solution_answer}
+use Rattle.noisy_kkt.specs.Laws.{by_from}
 use Rattle.noisy_kkt.proofs.solve_by_in.Statement.{statement}
 use Rattle.noisy_kkt.proofs.solve_by_in.Tie as tie
 
@@ -38,7 +38,7 @@ slice-aggregate-scaled-e c = sym (length-take-le _ _ (array-share-prefix-columns
 scaled-e-requires : tie.Need-scaled-e-requires
 scaled-e-requires c κs =
     let p = (start c.before.before.before.before.before.before).requires in
-    (omega (arith, p.0.few), p.0.columns, p.0.e-holds, omega (arith, slice-aggregate-scaled-e c.before), p.2)
+    (omega (arith, p.0.few), p.0.columns, p.0.e_holds, omega (arith, slice-aggregate-scaled-e c.before), p.2)
 
 array-share-prefix-columns-2 : tie.Need-array-share-prefix-columns-2
 array-share-prefix-columns-2 c = columns-hold c.before.before.before.before.before.before.before.before.before.before
@@ -49,7 +49,7 @@ slice-aggregate-div c = sym (length-take-le _ _ (array-share-prefix-columns-2 c.
 div-requires : tie.Need-div-requires
 div-requires c κs =
     let p = (start c.before.before.before.before.before.before.before.before.before.before.before).requires in
-    (omega (arith, p.0.columns), p.0.b-holds, omega (arith, slice-aggregate-div c))
+    (omega (arith, p.0.columns), p.0.b_holds, omega (arith, slice-aggregate-div c))
 
 slice-reshare-prefix-solve-scaled : tie.Need-slice-reshare-prefix-solve-scaled
 slice-reshare-prefix-solve-scaled c = omega (arith, (start (columns-at c)).requires.1)
@@ -82,10 +82,10 @@ solve-scaled-requires c κs =
       record {
         few = p.0.few;
         columns = p.0.columns;
-        k-holds = omega (arith, slice-aggregate-solve-scaled a.before.before.before);
-        c-holds = omega (arith, slice-aggregate-solve-scaled-2 a.before.before);
-        e-holds = omega (arith, slice-aggregate-solve-scaled-3 a.before);
-        b-holds = omega (arith, slice-aggregate-solve-scaled-4 a);
+        k_holds = omega (arith, slice-aggregate-solve-scaled a.before.before.before);
+        c_holds = omega (arith, slice-aggregate-solve-scaled-2 a.before.before);
+        e_holds = omega (arith, slice-aggregate-solve-scaled-3 a.before);
+        b_holds = omega (arith, slice-aggregate-solve-scaled-4 a);
       },
       p.3,
       p.4,
@@ -105,12 +105,12 @@ returns : tie.Need-returns
 returns c =
     let s = solved-at c.before.before in
     let d = div-at s in
-    by-from _ _ _ _ _ _ (start (columns-at d)).args.noise _ (columns-at d).column-scales.ensures
+    by_from _ _ _ _ _ _ (start (columns-at d)).args.noise _ (columns-at d).column-scales.ensures
     (taken-over _ _ (length-divided _ _ _) (divided-at d).divided.ensures)
     d.before.before.divided2.ensures
-    (taken-over _ _ (length-columnsDivided _ _ _ _) (scaled_at d).scaled-e.ensures)
+    (taken-over _ _ (length-columns_divided _ _ _ _) (scaled_at d).scaled-e.ensures)
     d.div.ensures
-    (sym (solution-answer _ _ _) ∙ s.solve-scaled.ensures)
+    (sym (solution_answer _ _ _) ∙ s.solve-scaled.ensures)
     refl
     c.rescaled.ensures
 

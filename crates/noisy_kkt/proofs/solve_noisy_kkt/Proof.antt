@@ -1,25 +1,25 @@
 use Rattle.folds.specs.Kit.{◌∙◌, needs, pick}
-use Rattle.solution.specs.Laws.{solution-nonFinite, solution-singular}
-use Rattle.noisy_kkt.specs.NoisyKkt.{withScale, solveNoisyKkt}
+use Rattle.solution.specs.Laws.{solution_non_finite, solution_singular}
+use Rattle.noisy_kkt.specs.NoisyKkt.{with_scale, solve_noisy_kkt}
 use Rattle.noisy_kkt.proofs.solve_noisy_kkt.Statement.{statement}
 use Rattle.noisy_kkt.proofs.solve_noisy_kkt.Tie as tie
 
 returns : tie.Need-returns
-unfolding solveNoisyKkt withScale pick
+unfolding solve_noisy_kkt with_scale pick
 returns c =
     let k = c.before.before.before.before in
     rw (← k.before.before.finite.ensures, k.before.if1.true, ← k.k_scale.ensures, c.before.before.scale.given.1) c.solve-by.ensures
 
 returns-2 : tie.Need-returns-2
-unfolding solveNoisyKkt withScale pick
+unfolding solve_noisy_kkt with_scale pick
 returns-2 c =
     let k = c.before.before.before in
-    solution-singular _ _ _ c.refused.ensures
+    solution_singular _ _ _ c.refused.ensures
     ∙ rw (← k.before.before.finite.ensures, k.before.if1.true, ← k.k_scale.ensures, c.before.enum_told.given.1)
 
 returns-3 : tie.Need-returns-3
-unfolding solveNoisyKkt pick
-returns-3 c = solution-nonFinite _ _ _ c.refused2.ensures ∙ rw (← c.before.before.finite.ensures, c.before.if1.false)
+unfolding solve_noisy_kkt pick
+returns-3 c = solution_non_finite _ _ _ c.refused2.ensures ∙ rw (← c.before.before.finite.ensures, c.before.if1.false)
 
 pub solve-noisy-kkt-spec : {M : Type 1} → statement M
 solve-noisy-kkt-spec =

@@ -2,10 +2,10 @@ use Rattle.folds.specs.Kit.{◌≡◌, ◌≤◌, refl, sym, ◌∙◌, arith, n
 use lib.ListN.{take}
 use lib.Seq.{length-take-le, take_at}
 use Rattle.folds.specs.Tab.{taken-over}
-use Rattle.vector.specs.Laws.{take-zeros}
+use Rattle.vector.specs.Laws.{take_zeros}
 use Rattle.eigen.specs.Eigen.{null}
 use Rattle.eigen.specs.Laws.{null-few, null-below}
-use Rattle.null_part.specs.NullPart.{nullPart}
+use Rattle.null_part.specs.NullPart.{null_part}
 use Rattle.null_part.proofs.null_part.Statement.{statement}
 use Rattle.null_part.proofs.null_part.Tie as tie
 
@@ -37,14 +37,14 @@ null-each-requires c κs =
     (p.0, p.4, p.3, p.5, rw (listed r) (null-below s.d s.values.now s.cutoff), sym (slice-aggregate-null-each-2 c))
 
 returns : tie.Need-returns
-unfolding nullPart
+unfolding null_part
 returns c =
     let e = c.before.null-each in
     let r = c.before.before.before.before.before in
     let s = start r.before in
     take_at _ _ _ (e.auto.1.1.1.1.1.1.0 ∙ sym (slice-aggregate-null-each-2 c.before.before))
     ∙ e.ensures
-    ∙ rw (listed r, take-zeros s.args.n 48 (omega (arith, s.pre.0)))
+    ∙ rw (listed r, take_zeros s.args.n 48 (omega (arith, s.pre.0)))
 
 pub null-part-spec : {M : Type 1} → statement M
 null-part-spec =

@@ -1,5 +1,5 @@
 use Rattle.folds.specs.Kit.{sym, ◌∙◌, needs}
-use Rattle.folds.specs.Fold.{both-on, both-stop}
+use Rattle.folds.specs.Fold.{both-on, both_stop}
 use Rattle.original_units.specs.Original.{feasible}
 use Rattle.original_units.proofs.feasible.Statement.{statement}
 use Rattle.original_units.proofs.feasible.Tie as tie
@@ -12,4 +12,4 @@ feasible-spec =
     (λ c κs. search needs)  -- checked-requires
     (λ c κs. search needs)  -- meets-rows-requires
     (λ c. both-on (sym c.before.before.checked.ensures ∙ c.before.if1.true) c.meets-rows.ensures)  -- returns
-    (λ c. both-stop _ (sym c.before.checked.ensures ∙ c.if1.false)))  -- returns-2
+    (λ c. both_stop _ (sym c.before.checked.ensures ∙ c.if1.false)))  -- returns-2

@@ -1,6 +1,6 @@
 use Rattle.folds.specs.Kit.{◌∙◌, needs}
-use Rattle.minimum.specs.Laws.{minimized-optimal, minimized-nonFinite, minimized-singular, minimized-unbounded, minimized-notConverged}
-use Rattle.minimum.specs.Laws.{minimizedOf-nonFinite, minimizedOf-singular, minimizedOf-unbounded, minimizedOf-notConverged}
+use Rattle.minimum.specs.Laws.{minimized-optimal, minimized-non_finite, minimized-singular, minimized-unbounded, minimized-not_converged}
+use Rattle.minimum.specs.Laws.{minimized_of-non_finite, minimized_of-singular, minimized_of-unbounded, minimized_of-not_converged}
 use Rattle.original_units.specs.Original.{original}
 use Rattle.original_units.proofs.original.Statement.{statement}
 use Rattle.original_units.proofs.original.Tie as tie
@@ -21,7 +21,7 @@ original-spec =
     (λ c. search needs)  -- enum-told-5
     (λ c κs. search needs)  -- refused-requires-4
     (λ c. rw (c.before.enum_told.given.1, minimized-optimal) c.restored.ensures)  -- returns
-    (λ c. minimizedOf-nonFinite _ _ _ c.refused.ensures ∙ rw (c.before.enum-told2.given.1, minimized-nonFinite))  -- returns-2
-    (λ c. minimizedOf-singular _ _ _ c.refused2.ensures ∙ rw (c.before.enum-told3.given.1, minimized-singular))  -- returns-3
-    (λ c. minimizedOf-unbounded _ _ _ c.refused3.ensures ∙ rw (c.before.enum-told4.given.1, minimized-unbounded))  -- returns-4
-    (λ c. minimizedOf-notConverged _ _ _ c.refused4.ensures ∙ rw (c.before.enum-told5.given.1, minimized-notConverged)))  -- returns-5
+    (λ c. minimized_of-non_finite _ _ _ c.refused.ensures ∙ rw (c.before.enum-told2.given.1, minimized-non_finite))  -- returns-2
+    (λ c. minimized_of-singular _ _ _ c.refused2.ensures ∙ rw (c.before.enum-told3.given.1, minimized-singular))  -- returns-3
+    (λ c. minimized_of-unbounded _ _ _ c.refused3.ensures ∙ rw (c.before.enum-told4.given.1, minimized-unbounded))  -- returns-4
+    (λ c. minimized_of-not_converged _ _ _ c.refused4.ensures ∙ rw (c.before.enum-told5.given.1, minimized-not_converged)))  -- returns-5

@@ -2,7 +2,7 @@ use Rattle.folds.specs.Kit.{refl, sym, ◌∙◌, arith, needs, pick}
 use lib.Seq.{length-take-le}
 use Rattle.folds.specs.Tab.{taken-over}
 use Rattle.vector.specs.Laws.{length-div}
-use Rattle.minimum.specs.Laws.{minimizedOf-optimal, minimizedOf-singular}
+use Rattle.minimum.specs.Laws.{minimized_of-optimal, minimized_of-singular}
 use Rattle.original_units.specs.Original.{restored}
 use Rattle.original_units.proofs.restored.Statement.{statement}
 use Rattle.original_units.proofs.restored.Tie as tie
@@ -24,12 +24,12 @@ feasible-requires c κs =
     let p = (start c.before.before.before.before).requires in (
       omega arith,
       omega (arith, slice-aggregate-feasible c),
-      p.e-holds,
-      p.b-holds,
+      p.e_holds,
+      p.b_holds,
       omega arith,
-      p.a-holds,
-      p.rowLower-holds,
-      p.rowUpper-holds,
+      p.a_holds,
+      p.row_lower_holds,
+      p.row_upper_holds,
     )
 
 slice-aggregate-div-3 : tie.Need-slice-aggregate-div-3
@@ -38,13 +38,13 @@ slice-aggregate-div-3 c = let p = (start c.before.before.before.before.before.be
 div-requires-2 : tie.Need-div-requires-2
 div-requires-2 c κs =
     let p = (start c.before.before.before.before.before.before.before.before).requires in
-    (omega (arith, slice-aggregate-div-3 c.before), p.columns-hold, omega arith)
+    (omega (arith, slice-aggregate-div-3 c.before), p.columns_hold, omega arith)
 
 returns : tie.Need-returns
 unfolding restored pick
 returns c =
     let f = c.before.before.before.before.before in
-    minimizedOf-optimal _ _ _ refl
+    minimized_of-optimal _ _ _ refl
     ∙ rw (
       ← taken-over _ _ (length-div _ _ _) f.before.before.before.div.ensures,
       ← f.feasible.ensures,
@@ -55,7 +55,7 @@ returns c =
 returns-2 : tie.Need-returns-2
 unfolding restored pick
 returns-2 c =
-    minimizedOf-singular _ _ _ c.refused.ensures
+    minimized_of-singular _ _ _ c.refused.ensures
     ∙ rw (
       ← taken-over _ _ (length-div _ _ _) c.before.before.before.before.before.div.ensures,
       ← c.before.before.feasible.ensures,

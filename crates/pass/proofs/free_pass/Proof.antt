@@ -3,9 +3,9 @@ use native.Mathlib.Nat.{le_of_eq, le_trans}
 use lib.Seq.{length-take-le}
 use Rattle.folds.specs.Cell.{area}
 use Rattle.sizes.specs.Sizes as Sizes
-use Rattle.variable_set.specs.Laws.{listed-few}
+use Rattle.variable_set.specs.Laws.{listed_few}
 use Rattle.free_list.specs.Laws.{free-few, listed, taken-entries, ends-taken}
-use Rattle.pass.specs.State.{made-beside}
+use Rattle.pass.specs.State.{made_beside}
 use Rattle.pass.specs.Laws.{free-from}
 use Rattle.pass.proofs.free_pass.Statement.{statement}
 use Rattle.pass.proofs.free_pass.Tie as tie
@@ -58,28 +58,28 @@ slope-fits c = le_trans (solved-fit (start c.before)) (slope-holds c)
 
 -- ---- what the gathering leaves of the lent memory
 solved-few : (c : tie.Start) → length c.args.solved.now ≤ c.args.counts.originals
-solved-few c = listed-few _ _ c.requires.5
+solved-few c = listed_few _ _ c.requires.5
 
 square-fits : (c : tie.After-gather) →
     let k = length (begun c).args.solved.now in k * k ≤ length c.gather.new.1.1.1.1.1.1.1.1.1.1.0
 square-fits c =
     let few = solved-few (begun c) in
-    rw c.gather.auto.1.1.1.1.1.1.1.1.1.1.0 (le_trans (area few few) (begun c).requires.6.q-free)
+    rw c.gather.auto.1.1.1.1.1.1.1.1.1.1.0 (le_trans (area few few) (begun c).requires.6.q_free_holds)
 
 entries-few : (c : tie.After-gather) →
     length (begun c).args.solved.now * c.gather.result.columns ≤ (begun c).args.counts.originals * (begun c).args.counts.m
-entries-few c = area (solved-few (begun c)) c.gather.ensures.1.kept-few
+entries-few c = area (solved-few (begun c)) c.gather.ensures.1.kept_few
 
 entries_fit : (c : tie.After-gather) →
     length (begun c).args.solved.now * c.gather.result.columns ≤ length c.gather.new.1.1.1.1.1.1.1.1.1.1.1.0
-entries_fit c = rw c.gather.auto.1.1.1.1.1.1.1.1.1.1.1.0 (le_trans (entries-few c) (begun c).requires.6.e-free)
+entries_fit c = rw c.gather.auto.1.1.1.1.1.1.1.1.1.1.1.0 (le_trans (entries-few c) (begun c).requires.6.e_free_holds)
 
 -- ---- what the solve is lent, and leaves
 solved-fits : (c : tie.Start) → length c.args.solved.now ≤ Sizes.originals
 solved-fits c = le_trans (solved-few c) c.requires.0.few
 
 kept-fits : (c : tie.After-gather) → c.gather.result.columns ≤ Sizes.columns
-kept-fits c = le_trans c.gather.ensures.1.kept-few (begun c).requires.0.columns
+kept-fits c = le_trans c.gather.ensures.1.kept_few (begun c).requires.0.columns
 
 delta-fits : (c : tie.After-solve-free) →
     length (begun (gather-at c.before)).args.solved.now ≤ length c.solve-free.new.1.1.1.1.1.1.1.1.1.1.0
@@ -107,34 +107,34 @@ gather-requires c κs =
     let p = (start c.before.before.before.before.before.before.before.before.before).requires in (
       p.0,
       le_of_eq (slice-aggregate-gather c.before.before.before.before),
-      p.4.solved-are,
-      p.4.slacks-are,
-      listed-few _ _ p.5,
+      p.4.solved_are,
+      p.4.slacks_are,
+      listed_few _ _ p.5,
       le_of_eq (slice-aggregate-gather-2 c.before.before.before),
       p.6.rows,
       p.6.columns,
-      p.6.q-free,
-      p.6.e-free,
+      p.6.q_free_holds,
+      p.6.e_free_holds,
     )
 
 solve-free-requires : tie.Need-solve-free-requires
 solve-free-requires c κs =
     let g = gather-at c in
     let p = (begun g).pre in
-    let few = g.gather.ensures.1.kept-few in
+    let few = g.gather.ensures.1.kept_few in
     let room = g.gather.kept.1.1.1.1.1.1.1.1.1.0 in (
       record {
-        block = record { few = p.0.few; within = p.0.within; q-holds = p.0.q-holds };
+        block = record { few = p.0.few; within = p.0.within; q_holds = p.0.q_holds };
         rises = p.5;
         good = p.7;
-        l-holds = p.8;
-        room-holds = rw room p.6.rows;
+        l_holds = p.8;
+        room_holds = rw room p.6.rows;
       },
       g.gather.ensures.1,
       square-fits g,
       entries_fit g,
       rw room (le_trans (entries-few g) p.6.columns),
-      le_trans (area few few) p.6.gram-room,
+      le_trans (area few few) p.6.gram_room,
       solved-fits (begun g),
       kept-fits g,
     )
@@ -155,9 +155,9 @@ step-requires c κs =
         within = p.0.within;
         variables = p.0.variables;
         columns = p.0.columns;
-        q-holds = p.0.q-holds;
-        c-holds = p.0.c-holds;
-        e-holds = p.0.e-holds;
+        q_holds = p.0.q_holds;
+        c_holds = p.0.c_holds;
+        e_holds = p.0.e_holds;
       },
       p.1,
       p.2,
@@ -183,7 +183,7 @@ returns c =
     let a = ends_at g in
     let s = start a.before in
     let e = c.step.ensures in (
-      made-beside _ _ _ _
+      made_beside _ _ _ _
           ∙ free-from _ _ _ _ _ _ _ _ _ _ _ _ _ _ _ _ r.result _ _ _ g.gather.ensures.0
           (rw (← s.pre.4.free) (taken-entries _ _ _ _ _ _ _ (solved-fit s) (slope-holds a) a.ends-and-slopes.ensures.2))
           r.ensures.0 e.0,

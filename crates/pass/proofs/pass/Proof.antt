@@ -3,11 +3,11 @@ use native.Mathlib.Nat.{le_of_eq, le_trans}
 use lib.ListN.{take}
 use lib.Seq.{length-take-le}
 use Rattle.folds.specs.Tab.{taken-over}
-use Rattle.free_list.specs.FreeList.{freeIndices}
+use Rattle.free_list.specs.FreeList.{free_indices}
 use Rattle.free_list.specs.Laws.{free-few}
-use Rattle.freeing.specs.Freeing.{noneFree}
-use Rattle.pass.specs.State.{made-beside}
-use Rattle.pass.specs.Laws.{lead-few, rest-is, split-rising, split-free, pass-without, pass-with}
+use Rattle.freeing.specs.Freeing.{none_free}
+use Rattle.pass.specs.State.{made_beside}
+use Rattle.pass.specs.Laws.{lead_few, rest-is, split-rising, split-free, pass_without, pass_with}
 use Rattle.pass.proofs.pass.Statement.{statement}
 use Rattle.pass.proofs.pass.Tie as tie
 
@@ -30,14 +30,14 @@ fits c = rw (c.free-indices.auto.1.1.0, c.free-indices.ensures.0) (le_trans (fre
 
 free : (c : tie.After-free-indices) →
     take c.free-indices.result c.free-indices.new.1.1.0
-    ≡ freeIndices (start c).args.counts.n (start c).args.iterate.board.state
+    ≡ free_indices (start c).args.counts.n (start c).args.iterate.board.state
 free c = let e = c.free-indices.ensures in taken-over _ _ (sym e.0) e.1
 
 listed : (c : tie.After-free-indices) →
     c.free-indices.result ≡ length (take c.free-indices.result c.free-indices.new.1.1.0)
 listed c = sym (length-take-le _ _ (fits c))
 
-none : (c : tie.After-none-free) → noneFree c.before.split-slacks.result.now ≡ c.none_free.result
+none : (c : tie.After-none-free) → none_free c.before.split-slacks.result.now ≡ c.none_free.result
 none c = sym c.none_free.ensures
 
 -- ---- the calls
@@ -48,8 +48,8 @@ returns c =
     let s = start i in
     let p = s.pre in
     let e = c.without-free.ensures in (
-      made-beside _ _ _ _
-          ∙ pass-without _ _ _ _ _ _ _ _ _ _ _ d.split-slacks.result.now _ _ _ s.args.b.now (free i) d.split-slacks.ensures
+      made_beside _ _ _ _
+          ∙ pass_without _ _ _ _ _ _ _ _ _ _ _ d.split-slacks.result.now _ _ _ s.args.b.now (free i) d.split-slacks.ensures
           (none c.before.before ∙ c.before.if1.true) (e.0 _ p.0.columns),
       (e.1, p.5),
     )
@@ -64,7 +64,7 @@ free-pass-requires c κs =
       p.1,
       p.2,
       le_of_eq (sym p.3),
-      split-free _ _ _ p.0.within (free i) l _ _ p.0.slacks p.0.variables p.0.columns p.0.e-holds
+      split-free _ _ _ p.0.within (free i) l _ _ p.0.slacks p.0.variables p.0.columns p.0.e_holds
           (rest-is (length d.split-slacks.result.now) _),
       split-rising _ _ _ p.0.within (free i) l,
       p.4,
@@ -78,7 +78,7 @@ returns-2 c =
     let o = other w.before in
     let d = o.before.before in
     let e = w.free-pass.ensures in (
-      pass-with _ _ _ _ _ _ _ _ _ _ _ _ _ _ _ _ (free (listed_at d)) d.split-slacks.ensures (none o.before ∙ o.if1.left)
+      pass_with _ _ _ _ _ _ _ _ _ _ _ _ _ _ _ _ (free (listed_at d)) d.split-slacks.ensures (none o.before ∙ o.if1.left)
           (rest-is (length d.split-slacks.result.now) _) e.0,
       e.1,
     )
@@ -96,8 +96,8 @@ pass_spec =
     (λ c κs. search needs)  -- without-free-requires
     returns
     (λ c. search needs)  -- mul-free-pass
-    (λ c. lead-few _ _ c.before.before.split-slacks.ensures)  -- sub-free-pass
-    (λ c. lead-few _ _ c.before.before.split-slacks.ensures)  -- part-free-pass-start
+    (λ c. lead_few _ _ c.before.before.split-slacks.ensures)  -- sub-free-pass
+    (λ c. lead_few _ _ c.before.before.split-slacks.ensures)  -- part-free-pass-start
     (λ c. search needs)  -- part-free-pass-end
     free-pass-requires
     (λ c. search needs)  -- room

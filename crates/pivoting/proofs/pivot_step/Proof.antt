@@ -1,8 +1,8 @@
 use Rattle.folds.specs.Kit.{◌≡◌, arith, length, needs, kit, sym, ◌∙◌, pick}
 use lib.Seq.{length-take-le}
 use Rattle.sizes.specs.Sizes as Sizes
-use Rattle.pivot_choice.specs.Laws.{found_below}
-use Rattle.pivoting.specs.Pivoting.{state_of, pivotStep, choose}
+use Rattle.pivot_choice.specs.Laws.{found-below}
+use Rattle.pivoting.specs.Pivoting.{state_of, pivot_step, choose}
 use Rattle.pivoting.proofs.pivot_step.Statement.{statement}
 use Rattle.pivoting.proofs.pivot_step.Tie as tie
 
@@ -17,13 +17,13 @@ slice-aggregate-largest-column c =
     let s = c.before.before.before.before.before.before in sym (length-take-le _ _ (omega (arith, s.requires.5, marks s)))
 
 returns : tie.Need-returns
-unfolding state_of pivotStep choose pick
+unfolding state_of pivot_step choose pick
 returns c =
     let s = c.before.before.before.before.before.before.before.before.before in
     (rw (← c.before.before.largest-column.ensures, c.enum_told.given.1), s.requires.7)
 
 returns-2 : tie.Need-returns-2
-unfolding state_of pivotStep choose pick
+unfolding state_of pivot_step choose pick
 returns-2 c =
     let b4 = c.before.before.before.before in
     let s = b4.before.before.before.before.before.before.before in
@@ -34,11 +34,11 @@ taken-requires c κs =
     let b5 = c.before.before.before.before.before in
     let b7 = b5.before.before in
     let r = b7.before.before.before.before.before.before.before.requires in
-    let one = found_below _ _ _ _ _ _ (sym b5.best.given.1 ∙ b7.largest-column.ensures) in
+    let one = found-below _ _ _ _ _ _ (sym b5.best.given.1 ∙ b7.largest-column.ensures) in
     (r.0, r.1, r.2, r.3, one, r.4, r.5, r.6, r.7)
 
 returns-3 : tie.Need-returns-3
-unfolding state_of pivotStep choose pick
+unfolding state_of pivot_step choose pick
 returns-3 c =
     let b6 = c.before.before.before.before.before.before in
     let b10 = b6.before.before.before.before in

@@ -1,6 +1,6 @@
-use Rattle.folds.specs.Kit.{◌≡◌, ◌-◌, ◌≤◌, arith, length, needs, kit, ap, pick, walk, out, walk_call, walk-stop, walks, true}
+use Rattle.folds.specs.Kit.{◌≡◌, ◌-◌, ◌≤◌, arith, length, needs, kit, ap, pick, walk, out, walk_call, walk_stop, walks, true}
 use Rattle.folds.specs.Fold.{ended, walk_end}
-use Rattle.pivoting.specs.Pivoting.{state_of, pivotStep, pivoted}
+use Rattle.pivoting.specs.Pivoting.{state_of, pivot_step, pivoted}
 use Rattle.pivoting.proofs.pivoted.Statement.{statement}
 use Rattle.pivoting.proofs.pivoted.Tie as tie
 
@@ -8,7 +8,7 @@ abbrev invariant-loop : tie.invariant-loop
 invariant-loop left₀ coefficients₀ basis₀ n m p tolerance pivots₀ row₀ left coefficients basis pivots row =
     (row ≤ p) × (length left ≡ length left₀) × (length coefficients ≡ length coefficients₀) × (length basis ≡ length basis₀) ×
     (pivots.rank ≡ row) ×
-    (out true (state_of m left coefficients basis pivots) ≡ walk row (pivotStep n m p tolerance) (state_of m left₀ coefficients₀ basis₀ pivots₀))
+    (out true (state_of m left coefficients basis pivots) ≡ walk row (pivot_step n m p tolerance) (state_of m left₀ coefficients₀ basis₀ pivots₀))
 
 abbrev decreases-loop : tie.decreases-loop
 decreases-loop left₀ coefficients₀ basis₀ n m p tolerance pivots₀ row₀ left coefficients basis pivots row = p - row
@@ -20,7 +20,7 @@ returns c =
     let b12 = b8.before.before.before.before in
     let step = rw c.if1.false at b8.pivot-step.ensures.0 in
     let rank = rw c.if1.false at b8.pivot-step.ensures.1 in
-    (ap ended (walk-stop _ _ _ _ b12.loop-test.true b12.before.loop.invariant.5 step), omega (arith, rank, b12.loop-test.true))
+    (ap ended (walk_stop _ _ _ _ b12.loop-test.true b12.before.loop.invariant.5 step), omega (arith, rank, b12.loop-test.true))
 
 loop-again : tie.Need-loop-preserved invariant-loop decreases-loop
 unfolding pick

@@ -1,13 +1,13 @@
-use Rattle.folds.specs.Kit.{◌≡◌, ◌-◌, ◌≤◌, arith, length, fold, fold-call, kit}
+use Rattle.folds.specs.Kit.{◌≡◌, ◌-◌, ◌≤◌, arith, length, fold, fold_call, kit}
 use Rattle.folds.specs.Part.{two}
-use Rattle.pivoting.specs.Pivoting.{removeOne, removeAll}
+use Rattle.pivoting.specs.Pivoting.{remove_one, remove_all}
 use Rattle.pivoting.proofs.remove_all.Statement.{statement}
 use Rattle.pivoting.proofs.remove_all.Tie as tie
 
 abbrev invariant-loop : tie.invariant-loop
 invariant-loop left₀ coefficients₀ n m p row y remaining l₀ left coefficients l =
     (l ≤ m) × (length left ≡ length left₀) × (length coefficients ≡ length coefficients₀) ×
-    (two left coefficients ≡ fold l (removeOne n p row y remaining) (two left₀ coefficients₀))
+    (two left coefficients ≡ fold l (remove_one n p row y remaining) (two left₀ coefficients₀))
 
 abbrev decreases-loop : tie.decreases-loop
 decreases-loop left₀ coefficients₀ n m p row y remaining l₀ left coefficients l = m - l
@@ -16,10 +16,10 @@ loop-again : tie.Need-loop-preserved invariant-loop decreases-loop
 loop-again c =
     let b4 = c.before.before.before.before in
     let inv = b4.before.before.before.before.loop.invariant in
-    (omega arith, omega arith, omega arith, fold-call _ _ _ inv.3 b4.remove-one.ensures)
+    (omega arith, omega arith, omega arith, fold_call _ _ _ inv.3 b4.remove-one.ensures)
 
 returns : tie.Need-returns invariant-loop decreases-loop
-unfolding removeAll
+unfolding remove_all
 returns c = search kit
 
 pub remove-all-spec : {M : Type 1} → statement M

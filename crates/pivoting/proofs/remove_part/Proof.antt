@@ -1,11 +1,11 @@
 use Rattle.folds.specs.Kit.{arith, kit}
-use Rattle.pivoting.specs.Pivoting.{removePart}
+use Rattle.pivoting.specs.Pivoting.{remove_part}
 use Rattle.columns.specs.Laws.{length-column}
 use Rattle.pivoting.proofs.remove_part.Statement.{statement}
 use Rattle.pivoting.proofs.remove_part.Tie as tie
 
 returns : tie.Need-returns
-unfolding removePart
+unfolding remove_part
 returns c =
     let b6 = c.before.before.before.before.before.before in
     let b8 = b6.before.before in

@@ -2,7 +2,7 @@ use Rattle.folds.specs.Kit.{◌≡◌, arith, length, needs, kit, sym}
 use lib.Seq.{length-take-le}
 use Rattle.sizes.specs.Sizes as Sizes
 use Rattle.columns.specs.Laws.{length-column}
-use Rattle.pivoting.specs.Pivoting.{state_of, taken, withBasis}
+use Rattle.pivoting.specs.Pivoting.{state_of, taken, with_basis}
 use Rattle.pivoting.proofs.taken.Statement.{statement}
 use Rattle.pivoting.proofs.taken.Tie as tie
 
@@ -37,7 +37,7 @@ with-basis-requires c κs =
     (r.0, omega (arith, r.1), r.2, r.3, omega (arith, slice-aggregate-with-basis c.before), omega (arith, slice-aggregate-with-basis-2 c))
 
 returns : tie.Need-returns
-unfolding state_of taken withBasis
+unfolding state_of taken with_basis
 returns c =
     let b6 = c.before.before.before.before.before.before in
     let b14 = b6.before.before.before.before.before.before.before.before in

@@ -5,7 +5,7 @@ use lib.Ieee.{Float}
 use lib.Seq.{length-take-le}
 use Rattle.block.specs.Keeps.{bounded}
 use Rattle.format.specs.Structs.{block_of}
-use Rattle.placement.specs.Code.{times-off, times-planned, times-break, times-priced, times-answer}
+use Rattle.placement.specs.Code.{times-off, times-planned, times_break, times_priced, times-answer}
 use Rattle.placement.proofs.written.Statement.{statement}
 use Rattle.placement.proofs.written.Tie as tie
 
@@ -71,7 +71,7 @@ written-spec =
     (λ c.
     let t = c.before.before.before.before.before.before in
     let s = start t in
-    times-break s.pre.0 s.pre.1 (x s) (μ s) (x-room s) (μ-room s) t.times-of.ensures
+    times_break s.pre.0 s.pre.1 (x s) (μ s) (x-room s) (μ-room s) t.times-of.ensures
     c.before.before.before.before.before.if1.true _ _
     (sym c.before.before.bounded.ensures ∙ c.before.if2.false) c.refused2.ensures)  -- returns-2
     (λ c. μ-room (start c.before.before.before.before.before))  -- array-share-prefix-multipliers
@@ -84,7 +84,7 @@ written-spec =
       s.pre.0,
       (
         s.pre.1,
-        times-priced s.pre.0 s.pre.1 (x s) (μ s) (x-room s) (μ-room s) (timed c).times-of.ensures (on c) (within c) c.prices-of.ensures,
+        times_priced s.pre.0 s.pre.1 (x s) (μ s) (x-room s) (μ-room s) (timed c).times-of.ensures (on c) (within c) c.prices-of.ensures,
       ),
     ))  -- with-gap-requires
     (λ c.

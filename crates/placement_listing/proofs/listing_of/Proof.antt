@@ -7,7 +7,7 @@ use mir.Val.{SFits, to_z, of_z}
 use mir.Facts.{to_z-of_z}
 use Rattle.format.specs.Structs.{block_of}
 use Rattle.listing.specs.Listing.{plan}
-use Rattle.listing.specs.Appended.{listed-as}
+use Rattle.listing.specs.Appended.{listed_as}
 use Rattle.placement.specs.declared.Placement.{Placement}
 use Rattle.placement_listing.specs.Laws.{listing-plan, listing-refusal}
 use Rattle.placement_listing.proofs.listing_of.Statement.{statement}
@@ -41,9 +41,9 @@ listing-of-spec =
     (λ c. search needs)
     (λ c.
     let t = c.before.before.before.before.before.before.before.before in
-    listed-as (listing-plan _ (p t) t.if1.true) (listed-as (gap t) c.before.before.plan.ensures))
+    listed_as (listing-plan _ (p t) t.if1.true) (listed_as (gap t) c.before.before.plan.ensures))
     (λ c κs. search needs)
     (λ c. search needs)
     (λ c.
     let e = c.before.before.before.before in
-    listed-as (listing-refusal _ _ e.if1.false) c.before.before.refused.ensures))
+    listed_as (listing-refusal _ _ e.if1.false) c.before.before.refused.ensures))

@@ -1,6 +1,6 @@
 use Rattle.folds.specs.Kit.{ℕ, needs}
 use mathlib.Core.Path.{subst}
-use Rattle.listing.specs.Appended.{listed-as}
+use Rattle.listing.specs.Appended.{listed_as}
 use Rattle.service.specs.Held.{PlacedFor}
 use Rattle.places.specs.Places.{room}
 use Rattle.places.specs.Laws.{listing-placed}
@@ -23,4 +23,4 @@ listing-of-spec =
     (λ c κs. search needs)
     (λ c κs. let p = c.before in ((placed p).planned, p.before.before.before.before.requires))
     (λ c. search needs)
-    (λ c. listed-as (listing-placed (placed c.before.before.before.before)) c.before.before.listing-of.ensures))
+    (λ c. listed_as (listing-placed (placed c.before.before.before.before)) c.before.before.listing-of.ensures))

@@ -1,7 +1,7 @@
 use mathlib.Core.Path.{ap₂}
 use lib.Signed.{le_z}
 use mir.Syntax.{w64}
-use Rattle.folds.specs.Fold.{both-on, both-stop}
+use Rattle.folds.specs.Fold.{both-on, both_stop}
 use Rattle.ints.specs.Held.{param, tested≤}
 use Rattle.plan_check.specs.Check.{between}
 use Rattle.plan_check.proofs.between.Statement.{statement}
@@ -15,4 +15,4 @@ between-spec =
     (λ c.
     let f = c.before.ranges in
     both-on (tested≤ (param w64 f.lower) (param w64 f.z) c.if1.true) (ap₂ le_z (param w64 f.z).is (param w64 f.upper).is))
-    (λ c. let f = c.before.ranges in both-stop _ (tested≤ (param w64 f.lower) (param w64 f.z) c.if1.false)))
+    (λ c. let f = c.before.ranges in both_stop _ (tested≤ (param w64 f.lower) (param w64 f.z) c.if1.false)))

@@ -1,7 +1,7 @@
 use Rattle.folds.specs.Kit.{sym, ◌∙◌, arith, needs}
 use mir.Facts.{to_z-of_z}
-use Rattle.format.specs.Laws.{number_small}
-use Rattle.plan_check.specs.Laws.{passed, block_refused, plan-refused, gap-given}
+use Rattle.format.specs.Laws.{number-small}
+use Rattle.plan_check.specs.Laws.{passed, block-refused, plan-refused, gap-given}
 use Rattle.plan_check.proofs.check.Statement.{statement}
 use Rattle.plan_check.proofs.check.Tie as tie
 
@@ -12,10 +12,10 @@ check-spec =
     (λ c κs. search needs)
     (λ c κs. search needs)
     (λ c κs. search needs)
-    (λ c. omega (arith, c.number.ensures, number_small c.before.before.before.before.read.result.verdict))
+    (λ c. omega (arith, c.number.ensures, number-small c.before.before.before.before.read.result.verdict))
     (λ c.
     let r = c.before.before.before.before.read in
-    block_refused _ _ _ r.ensures.0 _ _ _ (sym c.before.before.accepted.ensures ∙ c.before.if1.false) c.number.ensures)
+    block-refused _ _ _ r.ensures.0 _ _ _ (sym c.before.before.accepted.ensures ∙ c.before.if1.false) c.number.ensures)
     (λ c κs. c.before.before.before.read.ensures.1.0)
     (λ c.
     let r = c.before.before.before.before.before.read in

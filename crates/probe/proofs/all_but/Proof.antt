@@ -1,10 +1,10 @@
 use Rattle.folds.specs.Kit.{needs}
-use Rattle.probe.specs.Hooks.{allBut}
+use Rattle.probe.specs.Hooks.{all_but}
 use Rattle.probe.proofs.all_but.Statement.{statement}
 use Rattle.probe.proofs.all_but.Tie as tie
 
 pub all-but-spec : {M : Type 1} → statement M
-unfolding allBut
+unfolding all_but
 all-but-spec =
     tie.close
     (tie.spec (λ c. search needs) (λ c κs. search needs) (λ c. search needs)

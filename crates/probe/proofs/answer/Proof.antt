@@ -1,20 +1,20 @@
 use Rattle.folds.specs.Kit.{sym, ◌∙◌, arith, needs, pick}
 use Rattle.triangular.specs.Pivots.{definite-regular}
-use Rattle.probe.specs.Hooks.{answered, solve, matrices-true, vectors-true}
+use Rattle.probe.specs.Hooks.{answered, solve, matrices_true, vectors_true}
 use Rattle.probe.proofs.answer.Statement.{statement}
 use Rattle.probe.proofs.answer.Tie as tie
 
 positive-definite-requires : tie.Need-positive-definite-requires
 positive-definite-requires c κs =
-    let h = matrices-true _ _ _ _ _ _ _ (sym c.before.before.before.matrices.ensures ∙ c.before.before.if1.true) in omega (arith, h.factor)
+    let h = matrices_true _ _ _ _ _ _ _ (sym c.before.before.before.matrices.ensures ∙ c.before.before.if1.true) in omega (arith, h.factor)
 
 solved-requires : tie.Need-solved-requires
 solved-requires c κs =
     let d = c.before.before.before.before in
     let v = d.before.before in
     let m = v.before.before in (
-      matrices-true _ _ _ _ _ _ _ (sym m.before.matrices.ensures ∙ m.if1.true),
-      vectors-true _ _ _ _ _ _ (sym v.before.vectors.ensures ∙ v.if2.true),
+      matrices_true _ _ _ _ _ _ _ (sym m.before.matrices.ensures ∙ m.if1.true),
+      vectors_true _ _ _ _ _ _ (sym v.before.vectors.ensures ∙ v.if2.true),
       definite-regular _ _ (sym d.before.positive-definite.ensures ∙ d.if3.true),
     )
 

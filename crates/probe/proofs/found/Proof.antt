@@ -1,5 +1,5 @@
 use Rattle.folds.specs.Kit.{sym, ◌∙◌, needs, pick}
-use Rattle.eigen.specs.Laws.{given_nothing}
+use Rattle.eigen.specs.Laws.{given-nothing}
 use Rattle.probe.specs.Probe.{eigen, shape}
 use Rattle.probe.proofs.found.Statement.{statement}
 use Rattle.probe.proofs.found.Tie as tie
@@ -14,4 +14,4 @@ found-spec =
     (λ c. search needs) (λ c. search needs) (λ c. search needs) (λ c. search needs)
     (λ c. let e = c.before.before.before.before.before.before.before.before in let t = e.before.before.before.before.before in
     rw (← t.before.shaped.ensures, t.if1.true) e.symmetric-eigen.ensures)  -- returns
-    (λ c. rw (← c.before.shaped.ensures, c.if1.false) (given_nothing _ _)))  -- returns-2
+    (λ c. rw (← c.before.shaped.ensures, c.if1.false) (given-nothing _ _)))  -- returns-2

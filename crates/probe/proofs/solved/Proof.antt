@@ -12,10 +12,10 @@ solve-factored-requires c κs =
       record {
         few = h.few;
         columns = h.columns;
-        k-holds = omega (arith, h.curvature);
-        c-holds = omega (arith, v.right);
-        e-holds = omega (arith, h.constraints);
-        b-holds = omega (arith, v.below);
+        k_holds = omega (arith, h.curvature);
+        c_holds = omega (arith, v.right);
+        e_holds = omega (arith, h.constraints);
+        b_holds = omega (arith, v.below);
       },
       omega (arith, h.factor),
       p.2,

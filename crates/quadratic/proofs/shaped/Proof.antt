@@ -1,5 +1,5 @@
 use Rattle.folds.specs.Kit.{sym, ◌∙◌, needs}
-use Rattle.folds.specs.Fold.{both-on, both-stop}
+use Rattle.folds.specs.Fold.{both-on, both_stop}
 use Rattle.quadratic.specs.Quadratic.{shaped}
 use Rattle.quadratic.specs.Laws.{size}
 use Rattle.quadratic.proofs.shaped.Statement.{statement}
@@ -16,4 +16,4 @@ shaped-spec =
     (λ c κs. search needs)  -- sized-requires
     long-requires
     (λ c. both-on (sym c.before.before.sized.ensures ∙ c.before.if1.true) c.long.ensures)  -- returns
-    (λ c. both-stop _ (sym c.before.sized.ensures ∙ c.if1.false)))  -- returns-2
+    (λ c. both_stop _ (sym c.before.sized.ensures ∙ c.if1.false)))  -- returns-2

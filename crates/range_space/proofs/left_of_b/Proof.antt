@@ -2,8 +2,8 @@ use Rattle.folds.specs.Kit.{sym, ◌∙◌, arith, needs}
 use lib.Seq.{length-take-le}
 use Rattle.folds.specs.Tab.{taken-over}
 use Rattle.vector.specs.Laws.{length-sub}
-use Rattle.matrix.specs.Laws.{length-trMulVec}
-use Rattle.range_space.specs.Factored.{leftOfB}
+use Rattle.matrix.specs.Laws.{length-tr_mul_vec}
+use Rattle.range_space.specs.Factored.{left_of_b}
 use Rattle.range_space.proofs.left_of_b.Statement.{statement}
 use Rattle.range_space.proofs.left_of_b.Tie as tie
 
@@ -11,11 +11,11 @@ slice-aggregate-sub : tie.Need-slice-aggregate-sub
 slice-aggregate-sub c = sym (length-take-le _ _ (search needs))
 
 returns : tie.Need-returns
-unfolding leftOfB
+unfolding left_of_b
 returns c =
     let s = c.before.before in
     taken-over _ _ (length-sub _ _ _) s.sub.ensures
-    ∙ rw (taken-over _ _ (length-trMulVec _ _ _ _) s.before.before.before.before.tr-mul-vec.ensures)
+    ∙ rw (taken-over _ _ (length-tr_mul_vec _ _ _ _) s.before.before.before.before.tr-mul-vec.ensures)
 
 pub left-of-b-spec : {M : Type 1} → statement M
 left-of-b-spec =

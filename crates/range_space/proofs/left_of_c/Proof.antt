@@ -1,9 +1,9 @@
 use Rattle.folds.specs.Kit.{sym, ◌∙◌, arith, needs}
 use lib.Seq.{length-take-le}
 use Rattle.folds.specs.Tab.{taken-over}
-use Rattle.vector.specs.Laws.{length-sub, taken-less}
-use Rattle.matrix.specs.Laws.{length-mulVec}
-use Rattle.range_space.specs.Factored.{leftOfC}
+use Rattle.vector.specs.Laws.{length-sub, taken_less}
+use Rattle.matrix.specs.Laws.{length-mul_vec}
+use Rattle.range_space.specs.Factored.{left_of_c}
 use Rattle.range_space.proofs.left_of_c.Statement.{statement}
 use Rattle.range_space.proofs.left_of_c.Tie as tie
 
@@ -14,14 +14,14 @@ slice-aggregate-sub-from : tie.Need-slice-aggregate-sub-from
 slice-aggregate-sub-from c = sym (length-take-le _ _ (omega arith))
 
 returns : tie.Need-returns
-unfolding leftOfC
+unfolding left_of_c
 returns c =
     let p = c.before.before.before.before.before.before in
     let s = p.before.before.before.before in
-    taken-less _ _ _ _ (length-sub _ _ _) s.sub.ensures c.before.before.sub-from.ensures
+    taken_less _ _ _ _ (length-sub _ _ _) s.sub.ensures c.before.before.sub-from.ensures
     ∙ rw (
-      taken-over _ _ (length-mulVec _ _ _ _) s.before.before.before.before.mul-vec.ensures,
-      taken-over _ _ (length-mulVec _ _ _ _) p.mul-vec2.ensures,
+      taken-over _ _ (length-mul_vec _ _ _ _) s.before.before.before.before.mul-vec.ensures,
+      taken-over _ _ (length-mul_vec _ _ _ _) p.mul-vec2.ensures,
     )
 
 pub left-of-c-spec : {M : Type 1} → statement M

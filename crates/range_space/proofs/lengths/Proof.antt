@@ -1,4 +1,4 @@
-use Rattle.folds.specs.Kit.{◌≡◌, ◌-◌, ◌≤◌, arith, set, fold, fold-call, over-tab, taken-tab, kit}
+use Rattle.folds.specs.Kit.{◌≡◌, ◌-◌, ◌≤◌, arith, set, fold, fold_call, over-tab, taken-tab, kit}
 use Rattle.reductions.specs.Reductions.{norm}
 use Rattle.columns.specs.Columns.{column}
 use Rattle.columns.specs.Laws.{length-column}
@@ -19,5 +19,5 @@ lengths-spec =
     (tie.spec invariant-loop decreases-loop (λ c. search kit) (λ c κs. search kit)
     (λ c κs. rw (c.column.ensures, length-column _ _ _) (omega arith))  -- norm-requires
     (λ c. search kit) (λ c. search kit) (λ c. search kit) (λ c. search kit)
-    (λ c. (omega arith, fold-call _ _ _ c.before.before.before.loop.invariant.1 (rw (c.norm.ensures, c.before.column.ensures))))  -- loop-again
+    (λ c. (omega arith, fold_call _ _ _ c.before.before.before.loop.invariant.1 (rw (c.norm.ensures, c.before.column.ensures))))  -- loop-again
     (λ c. let inv = c.before.loop.invariant in taken-tab _ _ _ (over-tab _ _ _ _ inv.0 c.loop-test.false (omega arith) inv.1)))  -- returns

@@ -1,8 +1,8 @@
 use Rattle.folds.specs.Kit.{sym, arith, needs}
 use lib.Seq.{length-take-le}
 use Rattle.folds.specs.Tab.{taken-over}
-use Rattle.vector.specs.Laws.{length-div, taken-less}
-use Rattle.matrix.specs.Laws.{length-trMulVec}
+use Rattle.vector.specs.Laws.{length-div, taken_less}
+use Rattle.matrix.specs.Laws.{length-tr_mul_vec}
 use Rattle.triangular.specs.Regular.{solve-taken}
 use Rattle.range_space.proofs.scaled_multipliers.Statement.{statement}
 use Rattle.range_space.proofs.scaled_multipliers.Tie as tie
@@ -20,7 +20,7 @@ returns c =
     let d = s.before.before.before.before in
     rw (
       ← taken-over _ _ (length-div _ _ _) d.div.ensures,
-      ← taken-less _ _ _ _ (length-trMulVec _ _ _ _) d.before.before.before.before.tr-mul-vec.ensures s.sub-from.ensures,
+      ← taken_less _ _ _ _ (length-tr_mul_vec _ _ _ _) d.before.before.before.before.tr-mul-vec.ensures s.sub-from.ensures,
     )
     (solve-taken _ _ _ _ (sym (slice-aggregate-solve v.before)) v.solve.ensures)
 

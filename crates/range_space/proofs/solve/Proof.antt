@@ -2,7 +2,7 @@ use Rattle.folds.specs.Kit.{sym, arith, needs}
 use lib.Seq.{length-take-le}
 use Rattle.folds.specs.Tab.{taken-over}
 use Rattle.vector.specs.Laws.{length-div}
-use Rattle.range_space.specs.Factored.{scaledMultipliers, withX, withH, solveOnce}
+use Rattle.range_space.specs.Factored.{scaled_multipliers, with_x, with_h, solve_once}
 use Rattle.range_space.proofs.solve.Statement.{statement}
 use Rattle.range_space.proofs.solve.Tie as tie
 
@@ -18,7 +18,7 @@ slice-aggregate-scaled-multipliers c = sym (length-take-le _ _ (omega (arith, (s
 scaled-multipliers-requires : tie.Need-scaled-multipliers-requires
 scaled-multipliers-requires c κs =
     let p = (start c.before.before.before).requires in
-    (p.0.columns, p.0.w-holds, p.0.by-holds, p.0.g-holds, omega (arith, slice-aggregate-scaled-multipliers c.before), p.2, p.0.columns)
+    (p.0.columns, p.0.w_holds, p.0.by_holds, p.0.g_holds, omega (arith, slice-aggregate-scaled-multipliers c.before), p.2, p.0.columns)
 
 slice-aggregate-upper : tie.Need-slice-aggregate-upper
 slice-aggregate-upper c = sym (length-take-le _ _ (omega (arith, (start c.before.before.before.before.before.before).requires.0.few)))
@@ -32,9 +32,9 @@ upper-requires c κs =
     let p = (start c.before.before.before.before.before.before.before.before).requires in
     let r = p.0 in (
       r.few,
-      r.l-holds,
-      r.l-regular,
-      r.w-holds,
+      r.l_holds,
+      r.l_regular,
+      r.w_holds,
       omega (arith, slice-aggregate-upper c.before.before),
       omega (arith, slice-aggregate-upper-2 c.before),
       p.3,
@@ -46,10 +46,10 @@ slice-aggregate-div c = sym (length-take-le _ _ (omega (arith, (start (lowered c
 div-requires : tie.Need-div-requires
 div-requires c κs =
     let p = (start (lowered c.before.before.before.before)).requires in
-    (omega (arith, slice-aggregate-div c.before), p.0.by-holds, p.4)
+    (omega (arith, slice-aggregate-div c.before), p.0.by_holds, p.4)
 
 returns : tie.Need-returns
-unfolding solveOnce withH withX scaledMultipliers
+unfolding solve_once with_h with_x scaled_multipliers
 returns c =
     let u = c.before.before.before.before.before.before.before in
     rw (

@@ -3,9 +3,9 @@ use Rattle.folds.specs.Tab.{over-whole}
 use lib.ListN.{take}
 use lib.Seq.{length-take-le}
 use Rattle.sizes.specs.Sizes as Sizes
-use Rattle.matrix.specs.Matrix.{columnsDivided}
-use Rattle.matrix.specs.Laws.{length-columnsDivided}
-use Rattle.range_space.specs.Factored.{foundOf, withGram, withW, solveFactored}
+use Rattle.matrix.specs.Matrix.{columns_divided}
+use Rattle.matrix.specs.Laws.{length-columns_divided}
+use Rattle.range_space.specs.Factored.{found_of, with_gram, with_w, solve_factored}
 use Rattle.range_space.proofs.solve_in.Statement.{statement}
 use Rattle.range_space.proofs.solve_in.Tie as tie
 
@@ -22,9 +22,9 @@ w-length c = let s = c.before.before.before.before.before.before.before.before.b
 -- W with its columns at unit length
 unit : (c : tie.After-divide-columns) → let s = start c.before.before.before in
     c.divide-columns.new.0 ≡
-    columnsDivided s.args.n s.args.m c.before.before.before.before.before.before.before.whiten.new.1.1.1.1.0
+    columns_divided s.args.n s.args.m c.before.before.before.before.before.before.before.whiten.new.1.1.1.1.0
     (take s.args.m c.before.before.before.lengths.result)
-unit c = over-whole _ _ (length-columnsDivided _ _ _ _) (w-length c.before.before.before.before.before) c.divide-columns.ensures
+unit c = over-whole _ _ (length-columns_divided _ _ _ _) (w-length c.before.before.before.before.before) c.divide-columns.ensures
 
 slice-aggregate-divide-columns : tie.Need-slice-aggregate-divide-columns
 slice-aggregate-divide-columns c = sym (length-take-le _ _ (omega (arith, (start c.before.before).requires.0.columns, by_length c.before.before)))
@@ -43,11 +43,11 @@ solve-over-requires c κs =
       record {
         few = p.0.few;
         columns = p.0.columns;
-        l-holds = p.1;
-        l-regular = p.2;
-        w-holds = omega (arith, p.3);
-        by-holds = omega (arith, slice-aggregate-solve-over c.before.before.before);
-        g-holds = omega (arith, p.4);
+        l_holds = p.1;
+        l_regular = p.2;
+        w_holds = omega (arith, p.3);
+        by_holds = omega (arith, slice-aggregate-solve-over c.before.before.before);
+        g_holds = omega (arith, p.4);
       },
       p.0,
       p.5,
@@ -55,7 +55,7 @@ solve-over-requires c κs =
     )
 
 returns : tie.Need-returns
-unfolding solveFactored withW withGram
+unfolding solve_factored with_w with_gram
 returns c =
     let u = c.before.before.before.before.before.before.before.before.before.before.before.before.before.before.before.before.before.before in
     rw (
@@ -67,7 +67,7 @@ returns c =
     ) c.before.before.before.before.solve-over.ensures
 
 returns-2 : tie.Need-returns-2
-unfolding foundOf pick solveFactored withW withGram
+unfolding found_of pick solve_factored with_w with_gram
 returns-2 c =
     let u = c.before.before.before.before.before.before.before.before in
     rw (
@@ -83,7 +83,7 @@ solve-in-spec =
     tie.close
     (tie.spec
     (λ c κs. let p = c.before.before.before.before.before.before.before.before.before.before.requires in
-    (p.0.few, p.0.columns, p.1, p.2, p.0.e-holds, p.3))  -- whiten-requires
+    (p.0.few, p.0.columns, p.1, p.2, p.0.e_holds, p.3))  -- whiten-requires
     (λ c κs. let p = c.before.before.before.before.before.before.before.before.before.before.before.before.before.before.requires in
     (p.0.columns, omega (arith, p.3)))  -- lengths-requires
     (λ c. omega (arith, (start c.before).requires.0.columns, by_length c.before))  -- array-share-prefix-by

@@ -2,8 +2,8 @@ use Rattle.folds.specs.Kit.{sym, arith, needs}
 use lib.Seq.{length-take-le}
 use Rattle.folds.specs.Tab.{taken-over}
 use Rattle.vector.specs.Laws.{length-sub}
-use Rattle.matrix.specs.Laws.{length-mulVec}
-use Rattle.triangular.specs.Regular.{tr-lower-taken}
+use Rattle.matrix.specs.Laws.{length-mul_vec}
+use Rattle.triangular.specs.Regular.{tr_lower-taken}
 use Rattle.range_space.proofs.upper.Statement.{statement}
 use Rattle.range_space.proofs.upper.Tie as tie
 
@@ -18,8 +18,8 @@ returns c =
     let t = c.before.before in
     let s = t.before.before.before.before in
     let p = s.before.before.before.before in
-    rw (← taken-over _ _ (length-mulVec _ _ _ _) p.mul-vec.ensures, ← taken-over _ _ (length-sub _ _ _) s.sub.ensures)
-    (tr-lower-taken _ _ p.before.before.before.before.before.before.before.requires.2 _ _
+    rw (← taken-over _ _ (length-mul_vec _ _ _ _) p.mul-vec.ensures, ← taken-over _ _ (length-sub _ _ _) s.sub.ensures)
+    (tr_lower-taken _ _ p.before.before.before.before.before.before.before.requires.2 _ _
     (sym (slice-aggregate-tr-solve-lower-triangular t.before)) t.tr-solve-lower-triangular.ensures)
 
 pub upper-spec : {M : Type 1} → statement M

@@ -1,10 +1,10 @@
 use Rattle.folds.specs.Kit.{kit}
-use Rattle.rank_one.specs.RankOne.{rankColumn}
+use Rattle.rank_one.specs.RankOne.{rank_column}
 use Rattle.rank_one.proofs.rank_column.Statement.{statement}
 use Rattle.rank_one.proofs.rank_column.Tie as tie
 
 pub rank-column-spec : {M : Type 1} → statement M
-unfolding rankColumn
+unfolding rank_column
 rank-column-spec =
     tie.close
     (tie.spec (λ c κs. search kit) (λ c κs. search kit) (λ c. search kit) (λ c. search kit) (λ c κs. search kit) (λ c κs. search kit)

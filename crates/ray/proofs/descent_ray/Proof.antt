@@ -1,11 +1,11 @@
 use Rattle.folds.specs.Kit.{◌∙◌, needs}
-use Rattle.scaled_ray.specs.Laws.{ray-none}
-use Rattle.ray.specs.Ray.{withScale, descentRay}
+use Rattle.scaled_ray.specs.Laws.{ray_none}
+use Rattle.ray.specs.Ray.{with_scale, descent_ray}
 use Rattle.ray.proofs.descent_ray.Statement.{statement}
 use Rattle.ray.proofs.descent_ray.Tie as tie
 
 pub descent-ray-spec : {M : Type 1} → statement M
-unfolding descentRay withScale
+unfolding descent_ray with_scale
 descent-ray-spec =
     tie.close
     (tie.spec
@@ -16,4 +16,4 @@ descent-ray-spec =
     (λ c κs. search needs)  -- refused-requires
     (λ c. let s = c.before.before in rw (← s.before.before.k_scale.ensures, s.scale.given.1) c.ray-by.ensures)  -- returns
     (λ c. let t = c.before in
-    ray-none _ _ c.refused.ensures ∙ rw (← t.before.before.k_scale.ensures, t.enum_told.given.1)))  -- returns-2
+    ray_none _ _ c.refused.ensures ∙ rw (← t.before.before.k_scale.ensures, t.enum_told.given.1)))  -- returns-2

@@ -2,8 +2,8 @@ use Rattle.folds.specs.Kit.{◌≤◌, sym, ◌∙◌, arith, length, needs}
 use lib.Seq.{length-take-le}
 use Rattle.folds.specs.Tab.{taken-over}
 use Rattle.vector.specs.Laws.{length-divided}
-use Rattle.matrix.specs.Laws.{length-columnsDivided}
-use Rattle.ray.specs.Laws.{by-from}
+use Rattle.matrix.specs.Laws.{length-columns_divided}
+use Rattle.ray.specs.Laws.{by_from}
 use Rattle.ray.proofs.ray_by_in.Statement.{statement}
 use Rattle.ray.proofs.ray_by_in.Tie as tie
 
@@ -54,10 +54,10 @@ ray-scaled-requires c κs =
       record {
         few = p.0;
         columns = p.1;
-        e-holds = omega (arith, slice-aggregate-ray-scaled-2 a);
-        coefficients-room = p.7;
-        range-room = p.8;
-        null-room = p.9;
+        e_holds = omega (arith, slice-aggregate-ray-scaled-2 a);
+        coefficients_room = p.7;
+        range_room = p.8;
+        null_room = p.9;
       },
     )
 
@@ -66,9 +66,9 @@ returns c =
     let r = ray-at c in
     let s = scaled_at r in
     r.ray-scaled.ensures
-    ∙ by-from _ _ _ _ _ _ (columns-at s).column-scales.ensures
+    ∙ by_from _ _ _ _ _ _ (columns-at s).column-scales.ensures
     (taken-over _ _ (length-divided _ _ _) s.before.before.before.before.before.before.before.divided.ensures)
-    (taken-over _ _ (length-columnsDivided _ _ _ _) s.before.before.scaled-e.ensures)
+    (taken-over _ _ (length-columns_divided _ _ _ _) s.before.before.scaled-e.ensures)
 
 pub ray-by-in-spec : {M : Type 1} → statement M
 ray-by-in-spec =

@@ -8,13 +8,13 @@ use Rattle.sizes.specs.Sizes as Sizes
 use Rattle.arith.specs.Float.{f0}
 use Rattle.vector.specs.Vector.{filled}
 use Rattle.vector.specs.Laws.{take-filled}
-use Rattle.slack_rows.specs.SlackRows.{withSlackSteps}
-use Rattle.slack_rows.specs.Laws.{length-withSlackSteps}
-use Rattle.scaled_ray.specs.Laws.{ray-found, ray-none}
-use Rattle.iterate.specs.Problem.{firstSlackColumn}
+use Rattle.slack_rows.specs.SlackRows.{with_slack_steps}
+use Rattle.slack_rows.specs.Laws.{length-with_slack_steps}
+use Rattle.scaled_ray.specs.Laws.{ray_found, ray_none}
+use Rattle.iterate.specs.Problem.{first_slack_column}
 use Rattle.iterate.specs.Laws.{passed-singular}
 use Rattle.full_step.specs.Laws.{split-few}
-use Rattle.ray_step.specs.RayStep.{onRay}
+use Rattle.ray_step.specs.RayStep.{on_ray}
 use Rattle.ray_step.proofs.on_ray.Statement.{statement}
 use Rattle.ray_step.proofs.on_ray.Tie as tie
 
@@ -40,9 +40,9 @@ slack-steps-requires : tie.Need-slack-steps-requires
 slack-steps-requires c κs =
     let s = (start c.before.before.before).requires.2 in (
       s.within,
-      s.slacks-fit,
-      s.solved-are,
-      s.slacks-are,
+      s.slacks_fit,
+      s.solved_are,
+      s.slacks_are,
       omega (arith, slice-aggregate-slack-steps c.before.before),
       omega (arith, slice-aggregate-slack-steps-2 c.before),
       omega (arith, split-few s, s.counted),
@@ -53,8 +53,8 @@ abbrev direction : tie.Start → (residuals : List Float) → List Float
 direction c residuals =
     let a = c.args in
     let k = a.counts in
-    withSlackSteps a.e.now k.n a.solved.now a.slacks.now (take (length a.solved.now) a.ray.direction) residuals k.originals
-    (firstSlackColumn k.originals k.n k.m)
+    with_slack_steps a.e.now k.n a.solved.now a.slacks.now (take (length a.solved.now) a.ray.direction) residuals k.originals
+    (first_slack_column k.originals k.n k.m)
 
 -- these move with residuals of 0
 steps : (c : tie.After-slack-steps) →
@@ -62,7 +62,7 @@ steps : (c : tie.After-slack-steps) →
     take (length s.args.indices.now) c.slack-steps.new.1.1.1.1.1.1.0 ≡ direction s (filled s.args.counts.m f0)
 steps c =
     let s = start c.before.before.before.before in
-    taken-over _ _ (length-withSlackSteps _ _ _ _ _ _ _ _ ∙ s.pre.2.counted) c.slack-steps.ensures
+    taken-over _ _ (length-with_slack_steps _ _ _ _ _ _ _ _ ∙ s.pre.2.counted) c.slack-steps.ensures
     ∙ ap (direction s) (take-filled s.args.counts.m Sizes.columns _ s.pre.2.columns)
 
 step-holds : tie.Need-array-share-prefix-step
@@ -74,25 +74,25 @@ slice-aggregate-along c = sym (length-take-le _ _ (step-holds c.before))
 along-requires : tie.Need-along-requires
 along-requires c κs =
     let p = (start c.before.before.before.before.before.before).requires in
-    (p.2.slacks-are.few, p.0, p.1.placed, p.2.free, omega (arith, slice-aggregate-along c), p.3)
+    (p.2.slacks_are.few, p.0, p.1.placed, p.2.free, omega (arith, slice-aggregate-along c), p.3)
 
 returns : tie.Need-returns
-unfolding onRay
+unfolding on_ray
 returns c =
     let t = c.before.before.before in
     let d = t.before.before.before.before in
     let s = start d in (
-      rw (ray-found (length s.args.solved.now) s.args.ray d.before.if1.true, ← steps t) (c.along.ensures.0 s.args.counts.m),
+      rw (ray_found (length s.args.solved.now) s.args.ray d.before.if1.true, ← steps t) (c.along.ensures.0 s.args.counts.m),
       c.along.ensures.1,
     )
 
 returns-2 : tie.Need-returns-2
-unfolding onRay
+unfolding on_ray
 returns-2 c =
     let s = c.before.before.before.before.before.before.before.before in
     let e = c.ended.ensures in (
       passed-singular _ _ c.ended.result e.0
-          ∙ rw (ray-none (length s.args.solved.now) s.args.ray c.before.if1.false),
+          ∙ rw (ray_none (length s.args.solved.now) s.args.ray c.before.if1.false),
       rw e.1 s.requires.1,
     )
 

@@ -3,7 +3,7 @@ use Rattle.folds.specs.Cell.{area}
 use native.Mathlib.Nat.{le_refl}
 use lib.Seq.{length-take-le}
 use Rattle.folds.specs.Tab.{taken-over}
-use Rattle.matrix.specs.Laws.{length-mul, length-trMul}
+use Rattle.matrix.specs.Laws.{length-mul, length-tr_mul}
 use Rattle.reduced.specs.Reduced.{projected}
 use Rattle.reduced.proofs.projected.Statement.{statement}
 use Rattle.reduced.proofs.projected.Tie as tie
@@ -37,7 +37,7 @@ unfolding projected
 returns c =
     let m = c.before.before in
     taken-over _ _ (length-mul _ _ _ _ _) m.mul.ensures
-    ∙ rw (taken-over _ _ (length-trMul _ _ _ _ _) m.before.before.before.before.before.tr-mul.ensures)
+    ∙ rw (taken-over _ _ (length-tr_mul _ _ _ _ _) m.before.before.before.before.before.tr-mul.ensures)
 
 pub projected-spec : {M : Type 1} → statement M
 projected-spec =

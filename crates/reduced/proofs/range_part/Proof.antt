@@ -2,10 +2,10 @@ use Rattle.folds.specs.Kit.{◌≡◌, ◌≤◌, refl, sym, ◌∙◌, arith, l
 use lib.ListN.{take}
 use lib.Seq.{length-take-le, take_at}
 use Rattle.folds.specs.Tab.{taken-over}
-use Rattle.vector.specs.Laws.{take-zeros}
+use Rattle.vector.specs.Laws.{take_zeros}
 use Rattle.eigen.specs.Eigen.{range}
 use Rattle.eigen.specs.Laws.{range-few, range-below}
-use Rattle.reduced.specs.Reduced.{rangePart}
+use Rattle.reduced.specs.Reduced.{range_part}
 use Rattle.reduced.proofs.range_part.Statement.{statement}
 use Rattle.reduced.proofs.range_part.Tie as tie
 
@@ -33,14 +33,14 @@ range-each-requires c κs =
     (omega arith, omega arith, omega arith, rw (listed r) (range-below s.d s.values.now s.cutoff), sym (slice-aggregate-range-each-2 c))
 
 returns : tie.Need-returns
-unfolding rangePart
+unfolding range_part
 returns c =
     let e = c.before.range-each in
     let r = c.before.before.before.before.before in
     let s = r.before.before.before.before.before in
     take_at _ _ _ (e.auto.1.1.1.1.1.0 ∙ sym (slice-aggregate-range-each-2 c.before.before))
     ∙ e.ensures
-    ∙ rw (listed r, take-zeros s.args.d 48 (omega (arith, s.requires.0)))
+    ∙ rw (listed r, take_zeros s.args.d 48 (omega (arith, s.requires.0)))
 
 pub range-part-spec : {M : Type 1} → statement M
 range-part-spec =

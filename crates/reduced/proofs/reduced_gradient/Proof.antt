@@ -1,6 +1,6 @@
 use Rattle.folds.specs.Kit.{sym, arith, length, needs}
 use lib.Seq.{length-take-le}
-use Rattle.reduced.specs.Reduced.{reducedGradient}
+use Rattle.reduced.specs.Reduced.{reduced_gradient}
 use Rattle.reduced.proofs.reduced_gradient.Statement.{statement}
 use Rattle.reduced.proofs.reduced_gradient.Tie as tie
 
@@ -17,7 +17,7 @@ tr-mul-vec-requires : tie.Need-tr-mul-vec-requires
 tr-mul-vec-requires c κs = (omega arith, omega arith, omega (arith, slice-aggregate-tr-mul-vec c))
 
 returns : tie.Need-returns
-unfolding reducedGradient
+unfolding reduced_gradient
 returns c = rw (c.tr-mul-vec.ensures, c.before.before.gradient.ensures)
 
 pub reduced-gradient-spec : {M : Type 1} → statement M

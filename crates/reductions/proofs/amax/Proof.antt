@@ -1,4 +1,4 @@
-use Rattle.folds.specs.Kit.{◌≡◌, sym, ◌∙◌, ◌-◌, ◌≤◌, arith, fold-call, kit}
+use Rattle.folds.specs.Kit.{◌≡◌, sym, ◌∙◌, ◌-◌, ◌≤◌, arith, fold_call, kit}
 use mathlib.Core.Bool.{false}
 use mathlib.Core.Logic.{⊎_elim}
 use lib.Ieee.{is_nan}
@@ -21,7 +21,7 @@ loop-again c =
     let t = c.before.before.before.before in
     let m : is_nan t.loop.m ≡ false = rw t.loop.invariant.1 (amax-number t.loop.k t.before.before.args.a.now) in (
       omega arith,
-      fold-call _ _ _ t.loop.invariant.1
+      fold_call _ _ _ t.loop.invariant.1
           (rw (← c.before.abs.ensures)
           (⊎_elim (λ w. w.1 ∙ sym (max-second _ _ w.0.taken)) (λ w. w.1 ∙ sym (max-first _ _ m w.0.left)) c.if1.branch)),
     )

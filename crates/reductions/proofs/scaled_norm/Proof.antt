@@ -1,10 +1,10 @@
 use Rattle.folds.specs.Kit.{needs, pick}
-use Rattle.reductions.specs.Reductions.{scaledNorm}
+use Rattle.reductions.specs.Reductions.{scaled_norm}
 use Rattle.reductions.proofs.scaled_norm.Statement.{statement}
 use Rattle.reductions.proofs.scaled_norm.Tie as tie
 
 pub scaled-norm-spec : {M : Type 1} → statement M
-unfolding scaledNorm pick
+unfolding scaled_norm pick
 scaled-norm-spec =
     tie.close
     (tie.spec (λ c κs. search needs) (λ c κs. search needs)

@@ -1,7 +1,7 @@
 use Rattle.folds.specs.Kit.{sym, arith, needs}
 use Rattle.folds.specs.Tab.{taken-over}
 use lib.Seq.{length-take-le}
-use Rattle.matrix.specs.Laws.{length-mulVec}
+use Rattle.matrix.specs.Laws.{length-mul_vec}
 use Rattle.release_at.specs.ReleaseAt.{gradient}
 use Rattle.release_at.proofs.gradient_at.Statement.{statement}
 use Rattle.release_at.proofs.gradient_at.Tie as tie
@@ -13,7 +13,7 @@ returns : tie.Need-returns
 unfolding gradient
 returns c =
     let s = c.before.before in
-    rw (← taken-over _ _ (length-mulVec _ _ _ _) s.before.before.before.before.mul-vec.ensures) s.sub.ensures
+    rw (← taken-over _ _ (length-mul_vec _ _ _ _) s.before.before.before.before.mul-vec.ensures) s.sub.ensures
 
 pub gradient-at-spec : {M : Type 1} → statement M
 gradient-at-spec =

@@ -2,7 +2,7 @@ use Rattle.folds.specs.Kit.{◌≡◌, ◌≤◌, sym, arith, length, needs}
 use Rattle.folds.specs.Tab.{taken-over}
 use lib.Seq.{length-take-le}
 use Rattle.sizes.specs.Sizes as Sizes
-use Rattle.matrix.specs.Laws.{length-mulVec}
+use Rattle.matrix.specs.Laws.{length-mul_vec}
 use Rattle.release_at.specs.ReleaseAt.{release}
 use Rattle.release_at.specs.Laws.{length-gradient}
 use Rattle.release_at.proofs.release.Statement.{statement}
@@ -62,7 +62,7 @@ returns c =
     let scaled = c.before.before.before.before in
     let pushback = scaled.before.before.before.before in
     rw (
-      ← taken-over _ _ (length-mulVec _ _ _ _) pushback.mul-vec.ensures,
+      ← taken-over _ _ (length-mul_vec _ _ _ _) pushback.mul-vec.ensures,
       ← scaled.scale.ensures,
       ← taken-over _ _ (length-gradient _ _ _ _) pushback.before.before.before.gradient-at.ensures,
     )

@@ -1,10 +1,10 @@
 use Rattle.folds.specs.Kit.{kit}
-use Rattle.releasing.specs.Release.{isInto}
+use Rattle.releasing.specs.Release.{is_into}
 use Rattle.releasing.proofs.any_so_far.Statement.{statement}
 use Rattle.releasing.proofs.any_so_far.Tie as tie
 
 pub any-so-far-spec : {M : Type 1} → statement M
-unfolding isInto
+unfolding is_into
 any-so-far-spec =
     tie.close
     (tie.spec

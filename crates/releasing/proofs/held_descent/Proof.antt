@@ -1,10 +1,10 @@
 use Rattle.folds.specs.Kit.{kit}
-use Rattle.releasing.specs.Release.{heldDescent}
+use Rattle.releasing.specs.Release.{held_descent}
 use Rattle.releasing.proofs.held_descent.Statement.{statement}
 use Rattle.releasing.proofs.held_descent.Tie as tie
 
 pub held-descent-spec : {M : Type 1} → statement M
-unfolding heldDescent
+unfolding held_descent
 held-descent-spec =
     tie.close
     (tie.spec

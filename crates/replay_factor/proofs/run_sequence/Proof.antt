@@ -13,7 +13,7 @@ run-steps-requires c κs =
       record {
         few = few;
         within = k.if3.false;
-        q-holds = omega (arith, slice-aggregate-run-steps c.before.before, r.before.area.ensures, r.if4.false);
+        q_holds = omega (arith, slice-aggregate-run-steps c.before.before, r.before.area.ensures, r.if4.false);
       },
       k.before.before.if1.false,
       omega (arith, mul-le-mul few few),

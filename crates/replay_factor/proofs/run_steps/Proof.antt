@@ -1,6 +1,6 @@
 use Rattle.std.proofs.Common.{◌≡◌, ◌-◌, ◌≤◌, length, refl, ◌∙◌, arith, rules}
 use Rattle.factoring.specs.Kept.{Good}
-use Rattle.factoring.specs.Laws.{good_new}
+use Rattle.factoring.specs.Laws.{good-new}
 use Rattle.replay_factor.proofs.run_steps.Statement.{statement}
 use Rattle.replay_factor.proofs.run_steps.Tie as tie
 
@@ -17,7 +17,7 @@ run-steps-spec =
     invariant-loop
     decreases-loop
     (λ c κs. search rules)  -- new-requires
-    (λ c. (omega arith, refl, good_new _ _ _ c.new.ensures))  -- loop-holds
+    (λ c. (omega arith, refl, good-new _ _ _ c.new.ensures))  -- loop-holds
     (λ c κs.
     let p = c.before.before.before.before.before.before.before.requires in
     let i = c.before.before.loop.invariant in

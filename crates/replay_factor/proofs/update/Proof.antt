@@ -25,7 +25,7 @@ update-requires : tie.Need-update-requires
 update-requires c κs =
     let r = c.before.before.before.before.before in
     let p = r.before.before.before.before.before.before.before.before.requires in
-    record { block = p.0; rises = rises r; good = p.2; l-holds = p.3; room-holds = omega (arith, mul-le-mul p.0.few p.1) }
+    record { block = p.0; rises = rises r; good = p.2; l_holds = p.3; room_holds = omega (arith, mul-le-mul p.0.few p.1) }
 
 pub update-spec : {M : Type 1} → statement M
 update-spec =

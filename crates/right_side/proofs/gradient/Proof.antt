@@ -2,7 +2,7 @@ use Rattle.folds.specs.Kit.{sym, ◌∙◌, arith, needs}
 use lib.Seq.{length-take-le}
 use Rattle.folds.specs.Tab.{taken-over}
 use Rattle.vector.specs.Laws.{length-sub}
-use Rattle.matrix.specs.Laws.{length-mulVec}
+use Rattle.matrix.specs.Laws.{length-mul_vec}
 use Rattle.right_side.specs.RightSide.{gradient}
 use Rattle.right_side.proofs.gradient.Statement.{statement}
 use Rattle.right_side.proofs.gradient.Tie as tie
@@ -14,7 +14,7 @@ returns : tie.Need-returns
 unfolding gradient
 returns c =
     let s = c.before.before in
-    taken-over _ _ (length-sub _ _ _) s.sub.ensures ∙ rw (taken-over _ _ (length-mulVec _ _ _ _) s.before.before.before.before.mul-vec.ensures)
+    taken-over _ _ (length-sub _ _ _) s.sub.ensures ∙ rw (taken-over _ _ (length-mul_vec _ _ _ _) s.before.before.before.before.mul-vec.ensures)
 
 pub gradient-spec : {M : Type 1} → statement M
 gradient-spec =

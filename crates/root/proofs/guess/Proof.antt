@@ -1,6 +1,6 @@
 -- `root::guess` meets its contract: its floats are no NaN where their bits are taken.
 use borrow.Author.Rules.{rules}
-use Rattle.root.proofs.Settle.{start-no-nan}
+use Rattle.root.proofs.Settle.{start_no_nan}
 use Rattle.root.proofs.Cases.{no_nan}
 use Rattle.root.proofs.guess.Statement.{statement}
 use Rattle.root.proofs.guess.Tie as tie
@@ -12,7 +12,7 @@ guess-spec =
     (λ c. search rules)  -- add-x
     (λ c. search rules)  -- mul-x
     (λ c. search rules)  -- add-x-2
-    (λ c. start-no-nan c.args.m c.args.k c.requires.0 c.requires.1)  -- float-from-bits-x
+    (λ c. start_no_nan c.args.m c.args.k c.requires.0 c.requires.1)  -- float-from-bits-x
     (λ c. search rules)  -- mul-i
     (λ c. search rules)  -- add-i
     (λ c κs. search rules)  -- constant-requires

@@ -1,7 +1,7 @@
 -- `root::nearest` meets its contract: every number fits, and what `settled` is given is what q * q leaves (`proofs/Settle.antt`).
 use borrow.Author.Rules.{rules}
 use native.Mathlib.Omega.{arith}
-use Rattle.root.proofs.Settle.{leaves, half-fits, middle-fits, low_fits}
+use Rattle.root.proofs.Settle.{leaves, half-fits, middle-fits, low-fits}
 use Rattle.root.proofs.nearest.Statement.{statement}
 use Rattle.root.proofs.nearest.Tie as tie
 
@@ -54,10 +54,10 @@ mul-settled : tie.Need-overflow-mul-settled
 mul-settled c = search rules
 
 mul-settled-2 : tie.Need-overflow-mul-settled-2
-mul-settled-2 c = omega (arith, low_fits c.before.before.before.before.args.q)
+mul-settled-2 c = omega (arith, low-fits c.before.before.before.before.args.q)
 
 add-settled : tie.Need-overflow-add-settled
-add-settled c = omega (arith, low_fits c.before.before.before.before.args.q)
+add-settled c = omega (arith, low-fits c.before.before.before.before.args.q)
 
 settled-requires : tie.Need-settled-requires
 settled-requires c κs =
@@ -67,7 +67,7 @@ settled-requires c κs =
       k.requires.2,
       k.requires.3,
       omega arith,
-      omega (arith, low_fits k.args.q),
+      omega (arith, low-fits k.args.q),
       leaves k.args.m k.args.q c.before.before.before.if1.false c.before.if3.false,
     )
 

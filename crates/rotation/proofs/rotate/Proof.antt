@@ -6,7 +6,7 @@ use Rattle.arith.specs.Float.{f0}
 use Rattle.columns.specs.Columns.{cell}
 use Rattle.angle.specs.declared.Turn.{Turn}
 use Rattle.angle.specs.Angle.{angle}
-use Rattle.rotation.specs.Rotation.{turned, turnColumns, rotate}
+use Rattle.rotation.specs.Rotation.{turned, turn_columns, rotate}
 use Rattle.rotation.proofs.rotate.Statement.{statement}
 use Rattle.rotation.proofs.rotate.Tie as tie
 
@@ -15,7 +15,7 @@ module _ {x : Float} (n p q : ℕ) (a v : List Float) (entry : x ≡ cell a n p 
   unfolding rotate pick
   skipped zero = rw (← entry, zero)
 
-  rotated : {t : Turn} {b w : List Float} → eq x f0 ≡ false → t ≡ angle n p q a → b ≡ turned n p q t a → w ≡ turnColumns n p q t v →
+  rotated : {t : Turn} {b w : List Float} → eq x f0 ≡ false → t ≡ angle n p q a → b ≡ turned n p q t a → w ≡ turn_columns n p q t v →
       two b w ≡ rotate n p q (two a v)
   unfolding rotate pick
   rotated other turn matrix vectors = rw (← entry, other, ← turn, ← matrix, ← vectors)

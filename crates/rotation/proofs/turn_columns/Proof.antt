@@ -1,16 +1,16 @@
 use Rattle.folds.specs.Kit.{◌≡◌, ◌-◌, ◌≤◌, length, fold, kit}
-use Rattle.rotation.specs.Rotation.{turnColumns, turnInRow}
+use Rattle.rotation.specs.Rotation.{turn_columns, turn_in_row}
 use Rattle.rotation.proofs.turn_columns.Statement.{statement}
 use Rattle.rotation.proofs.turn_columns.Tie as tie
 
 abbrev invariant-loop : tie.invariant-loop
-invariant-loop a₀ n p q t k₀ a k = (k ≤ n) × (length a ≡ length a₀) × (a ≡ fold k (turnInRow n p q t) a₀)
+invariant-loop a₀ n p q t k₀ a k = (k ≤ n) × (length a ≡ length a₀) × (a ≡ fold k (turn_in_row n p q t) a₀)
 
 abbrev decreases-loop : tie.decreases-loop
 decreases-loop a₀ n p q t k₀ a k = n - k
 
 pub turn-columns-spec : {M : Type 1} → statement M
-unfolding turnColumns
+unfolding turn_columns
 turn-columns-spec =
     tie.close
     (tie.spec invariant-loop decreases-loop (λ c. search kit) (λ c κs. search kit) (λ c. search kit) (λ c. search kit)

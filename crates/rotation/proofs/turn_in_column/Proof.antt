@@ -1,10 +1,10 @@
 use Rattle.folds.specs.Kit.{kit}
-use Rattle.rotation.specs.Rotation.{turnInColumn}
+use Rattle.rotation.specs.Rotation.{turn_in_column}
 use Rattle.rotation.proofs.turn_in_column.Statement.{statement}
 use Rattle.rotation.proofs.turn_in_column.Tie as tie
 
 pub turn-in-column-spec : {M : Type 1} → statement M
-unfolding turnInColumn
+unfolding turn_in_column
 turn-in-column-spec =
     tie.close
     (tie.spec (λ c κs. search kit) (λ c κs. search kit) (λ c κs. search kit) (λ c κs. search kit) (λ c. search kit)

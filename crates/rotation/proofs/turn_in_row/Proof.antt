@@ -1,10 +1,10 @@
 use Rattle.folds.specs.Kit.{kit}
-use Rattle.rotation.specs.Rotation.{turnInRow}
+use Rattle.rotation.specs.Rotation.{turn_in_row}
 use Rattle.rotation.proofs.turn_in_row.Statement.{statement}
 use Rattle.rotation.proofs.turn_in_row.Tie as tie
 
 pub turn-in-row-spec : {M : Type 1} → statement M
-unfolding turnInRow
+unfolding turn_in_row
 turn-in-row-spec =
     tie.close
     (tie.spec (λ c κs. search kit) (λ c κs. search kit) (λ c κs. search kit) (λ c κs. search kit) (λ c. search kit)

@@ -6,10 +6,10 @@ use lib.Ieee.{binary64, fits}
 use mir.Syntax.{w64}
 use Rattle.ints.specs.Held.{called, literal, fits-}
 use Rattle.arith.specs.Scalar.{is_finite}
-use Rattle.nearest.specs.Reach.{rounded, reach-small, whole_is}
+use Rattle.nearest.specs.Reach.{rounded, reach_small, whole-is}
 use Rattle.nearest.specs.declared.Rounded.TheVariants.{Whole, Far}
 use Rattle.rounding.specs.Rounding.{held}
-use Rattle.rounding.specs.Laws.{held_small, blank-price, far-below, far-above, whole-price}
+use Rattle.rounding.specs.Laws.{held-small, blank-price, far_below, far_above, whole-price}
 use Rattle.rounding.proofs.price_of.Statement.{statement}
 use Rattle.rounding.proofs.price_of.Tie as tie
 
@@ -39,11 +39,11 @@ price-of-spec =
     (λ c. search needs)  -- enum-known-w
     (λ c. search needs)  -- enum_told
     (λ c. fits- (literal w64 (pos 0) tt) (literal w64 (pos 4294967296) tt) tt)  -- sub-result
-    (λ c. far-below _ (good (start c.before)) (finite c.before.before.before.before) (far c.before) c.if2.true)  -- returns-2
-    (λ c. far-above _ (good (start c.before)) (finite c.before.before.before.before) (far c.before) c.if2.false)  -- returns-3
+    (λ c. far_below _ (good (start c.before)) (finite c.before.before.before.before) (far c.before) c.if2.true)  -- returns-2
+    (λ c. far_above _ (good (start c.before)) (finite c.before.before.before.before) (far c.before) c.if2.false)  -- returns-3
     (λ c κs. search needs)  -- held-requires
     (λ c.
     let k = c.before.before in
-    let w = whole_is _ _ (whole k) in
+    let w = whole-is _ _ (whole k) in
     whole-price _ (whole k)
-    (called w64 (c.held.ensures ∙ ap held ((called w64 w.1 (reach-small _ w.0) tt).is ∙ sym w.1)) (held_small _) tt).is))  -- returns-4
+    (called w64 (c.held.ensures ∙ ap held ((called w64 w.1 (reach_small _ w.0) tt).is ∙ sym w.1)) (held-small _) tt).is))  -- returns-4

@@ -9,9 +9,9 @@ use mir.Val.{to_z, of_z}
 use mir.Facts.{to_z-of_z}
 use Rattle.ints.specs.Bound.{◌≼◌, same-b, sfits}
 use Rattle.ints.specs.Held.{Cell, cell, literal, when<, unless<}
-use Rattle.nearest.specs.Reach.{rounded, reach-small, whole_is}
+use Rattle.nearest.specs.Reach.{rounded, reach_small, whole-is}
 use Rattle.nearest.specs.declared.Rounded.TheVariants.{Whole}
-use Rattle.rounding.specs.Laws.{off, on, far-off, low-off, high-off, whole-on, whole-time, time-small}
+use Rattle.rounding.specs.Laws.{off, on, far_off, low-off, high-off, whole-on, whole-time, time-small}
 use Rattle.rounding.proofs.time_of.Statement.{statement}
 use Rattle.rounding.proofs.time_of.Tie as tie
 
@@ -28,8 +28,8 @@ is c = sym c.before.before.before.nearest.ensures ∙ c.before.w.given.1
 held : (c : tie.After-known-told) → Cell w64 (number c) 9007199254740992
 held c =
     let x = c.before.before.before.before.args.x in
-    let w = whole_is x (number c) (is c) in
-    cell w64 (same-b (sym w.1) (reach-small x w.0)) tt
+    let w = whole-is x (number c) (is c) in
+    cell w64 (same-b (sym w.1) (reach_small x w.0)) tt
 
 module _ (c : tie.Else2) where
   abbrev k : tie.After-known-told
@@ -54,7 +54,7 @@ time-of-spec =
     (λ c. search needs)  -- enum_told
     (λ c.
     let s = c.before.before.before in
-    off _ (far-off s.args.x (good s) (sym c.before.before.nearest.ensures ∙ c.enum_told.given.1)))  -- returns
+    off _ (far_off s.args.x (good s) (sym c.before.before.nearest.ensures ∙ c.enum_told.given.1)))  -- returns
     (λ c. let k = c.before in off _ (low-off _ (is k) (when< (held k) (literal w64 (pos 0) tt) c.if1.true)))  -- returns-2
     (λ c. let k = c.before.before in off _ (high-off _ (is k) (when< (literal w64 (pos 262144) tt) (held k) c.if2.true)))  -- returns-3
     (λ c. sfits (small c) tt)  -- cast-t5

@@ -1,10 +1,10 @@
 use Rattle.folds.specs.Kit.{needs}
-use Rattle.row_test.specs.Limits.{meetsRow}
+use Rattle.row_test.specs.Limits.{meets_row}
 use Rattle.row_test.proofs.meets_row.Statement.{statement}
 use Rattle.row_test.proofs.meets_row.Tie as tie
 
 pub meets-row-spec : {M : Type 1} → statement M
-unfolding meetsRow
+unfolding meets_row
 meets-row-spec =
     tie.close
     (tie.spec

@@ -1,10 +1,10 @@
 use Rattle.folds.specs.Kit.{pick}
-use Rattle.scaled.specs.Scaled.{above0Or1}
+use Rattle.scaled.specs.Scaled.{above0_or1}
 use Rattle.scaled.proofs.above_0_or_1.Statement.{statement}
 use Rattle.scaled.proofs.above_0_or_1.Tie as tie
 
 pub above-0-or-1-spec : {M : Type 1} → statement M
-unfolding above0Or1 pick
+unfolding above0_or1 pick
 above-0-or-1-spec =
     tie.close
     (tie.spec

@@ -1,7 +1,7 @@
-use Rattle.vector.specs.Laws.{taken-less}
+use Rattle.vector.specs.Laws.{taken_less}
 use Rattle.folds.specs.Kit.{sym, arith, needs}
 use lib.Seq.{length-take-le}
-use Rattle.matrix.specs.Laws.{length-trMulVec}
+use Rattle.matrix.specs.Laws.{length-tr_mul_vec}
 use Rattle.scaled.specs.Scaled.{feasibility}
 use Rattle.scaled.proofs.feasibility.Statement.{statement}
 use Rattle.scaled.proofs.feasibility.Tie as tie
@@ -13,7 +13,7 @@ returns : tie.Need-returns
 unfolding feasibility
 returns c =
     let s = c.before.before.before in
-    rw (c.scaled-norm.ensures, taken-less _ _ _ _ (length-trMulVec _ _ _ _) s.before.before.before.tr-mul-vec.ensures s.sub-from.ensures)
+    rw (c.scaled-norm.ensures, taken_less _ _ _ _ (length-tr_mul_vec _ _ _ _) s.before.before.before.tr-mul-vec.ensures s.sub-from.ensures)
 
 pub feasibility-spec : {M : Type 1} → statement M
 feasibility-spec =

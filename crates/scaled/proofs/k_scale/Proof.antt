@@ -1,10 +1,10 @@
 use Rattle.folds.specs.Kit.{needs, pick}
-use Rattle.scaled.specs.Scaled.{average, kScale}
+use Rattle.scaled.specs.Scaled.{average, k_scale}
 use Rattle.scaled.proofs.k_scale.Statement.{statement}
 use Rattle.scaled.proofs.k_scale.Tie as tie
 
 pub k-scale-spec : {M : Type 1} → statement M
-unfolding kScale average pick
+unfolding k_scale average pick
 k-scale-spec =
     tie.close
     (tie.spec

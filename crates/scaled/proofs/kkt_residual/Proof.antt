@@ -1,10 +1,10 @@
 use Rattle.folds.specs.Kit.{needs}
-use Rattle.scaled.specs.Scaled.{kktResidual}
+use Rattle.scaled.specs.Scaled.{kkt_residual}
 use Rattle.scaled.proofs.kkt_residual.Statement.{statement}
 use Rattle.scaled.proofs.kkt_residual.Tie as tie
 
 pub kkt-residual-spec : {M : Type 1} → statement M
-unfolding kktResidual
+unfolding kkt_residual
 kkt-residual-spec =
     tie.close
     (tie.spec

@@ -1,6 +1,6 @@
 use Rattle.folds.specs.Kit.{◌∙◌, needs}
 use Rattle.vector.specs.Laws.{length-copy}
-use Rattle.matrix.specs.InPlace.{columns-divided, columnsDivided-copy}
+use Rattle.matrix.specs.InPlace.{columns-divided, columns_divided-copy}
 use Rattle.scaled.proofs.scaled_e.Statement.{statement}
 use Rattle.scaled.proofs.scaled_e.Tie as tie
 
@@ -14,4 +14,4 @@ scaled-e-spec =
     (λ c. search needs)  -- same-length
     (λ c. let p = c.before.before in
     columns-divided _ _ _ _ _ (length-copy _ _) p.before.before.before.before.copy.ensures p.divide-columns.ensures
-    ∙ rw columnsDivided-copy))  -- returns
+    ∙ rw columns_divided-copy))  -- returns

@@ -1,8 +1,8 @@
 use Rattle.folds.specs.Kit.{sym, arith, needs}
 use lib.Seq.{length-take-le}
 use Rattle.folds.specs.Tab.{taken-over}
-use Rattle.vector.specs.Laws.{length-add, taken-less}
-use Rattle.matrix.specs.Laws.{length-mulVec}
+use Rattle.vector.specs.Laws.{length-add, taken_less}
+use Rattle.matrix.specs.Laws.{length-mul_vec}
 use Rattle.scaled.specs.Scaled.{stationarity}
 use Rattle.scaled.proofs.stationarity.Statement.{statement}
 use Rattle.scaled.proofs.stationarity.Tie as tie
@@ -27,9 +27,9 @@ returns c =
     let e = a.before.before.before.before.before in
     rw (
       c.scaled-norm.ensures,
-      taken-less _ _ _ _ (length-add _ _ _) a.add.ensures s.sub-from.ensures,
-      taken-over _ _ (length-mulVec _ _ _ _) e.before.before.before.mul-vec.ensures,
-      taken-over _ _ (length-mulVec _ _ _ _) e.mul-vec2.ensures,
+      taken_less _ _ _ _ (length-add _ _ _) a.add.ensures s.sub-from.ensures,
+      taken-over _ _ (length-mul_vec _ _ _ _) e.before.before.before.mul-vec.ensures,
+      taken-over _ _ (length-mul_vec _ _ _ _) e.mul-vec2.ensures,
     )
 
 pub stationarity-spec : {M : Type 1} → statement M

@@ -1,10 +1,10 @@
 use Rattle.folds.specs.Kit.{needs, pick}
-use Rattle.scaled.specs.Scaled.{withinRounding}
+use Rattle.scaled.specs.Scaled.{within_rounding}
 use Rattle.scaled.proofs.within_rounding.Statement.{statement}
 use Rattle.scaled.proofs.within_rounding.Tie as tie
 
 pub within-rounding-spec : {M : Type 1} → statement M
-unfolding withinRounding pick
+unfolding within_rounding pick
 within-rounding-spec =
     tie.close
     (tie.spec

@@ -1,6 +1,6 @@
 use Rattle.folds.specs.Kit.{◌≡◌, sym, ◌∙◌, arith, length, needs}
 use lib.Seq.{length-take-le}
-use Rattle.solution.specs.Laws.{solution-singular}
+use Rattle.solution.specs.Laws.{solution_singular}
 use Rattle.scaled_kkt.specs.Laws.{over-least, over-unknown, point-found, point-unknown}
 use Rattle.scaled_kkt.proofs.solve_over.Statement.{statement}
 use Rattle.scaled_kkt.proofs.solve_over.Tie as tie
@@ -11,7 +11,7 @@ start c = c.before.before.before.before.before.before.before.before.before.befor
 smallest-feasible-requires : tie.Need-smallest-feasible-requires
 smallest-feasible-requires c κs =
     let p = c.before.before.before.before.before.before.before.before.requires in
-    (p.2, p.4, p.0.b-holds, p.5, p.1, p.6, p.0.few, p.0.columns)
+    (p.2, p.4, p.0.b_holds, p.5, p.1, p.6, p.0.few, p.0.columns)
 
 array-share-prefix-x0 : tie.Need-array-share-prefix-x0
 array-share-prefix-x0 c = search needs
@@ -22,7 +22,7 @@ slice-aggregate-minimum c = sym (length-take-le _ _ (array-share-prefix-x0 c.bef
 minimum-requires : tie.Need-minimum-requires
 minimum-requires c κs =
     let p = c.before.before.before.before.before.before.before.before.before.before.requires in
-    (p.0.few, omega arith, p.0.k-holds, p.0.c-holds, p.3, omega (arith, slice-aggregate-minimum c))
+    (p.0.few, omega arith, p.0.k_holds, p.0.c_holds, p.3, omega (arith, slice-aggregate-minimum c))
 
 x-long : (c : tie.After-minimum) → length c.minimum.result.x ≡ 48
 x-long c = search needs
@@ -36,7 +36,7 @@ slice-aggregate-gradient c = sym (length-take-le _ _ (array-share-prefix-x c.bef
 gradient-requires : tie.Need-gradient-requires
 gradient-requires c κs =
     let p = (start c.before.before.before).requires in
-    (p.0.few, p.0.k-holds, p.0.c-holds, omega (arith, slice-aggregate-gradient c))
+    (p.0.few, p.0.k_holds, p.0.c_holds, omega (arith, slice-aggregate-gradient c))
 
 array-share-prefix-g : tie.Need-array-share-prefix-g
 array-share-prefix-g c = omega (arith, (start c.before.before.before.before).requires.0.few)
@@ -59,7 +59,7 @@ returns c =
 returns-2 : tie.Need-returns-2
 returns-2 c =
     let r = c.before.before.before in
-    solution-singular _ _ _ c.refused.ensures
+    solution_singular _ _ _ c.refused.ensures
     ∙ over-unknown _ _ _ _ _ _ _ _ _ _ _ _ r.before.before.smallest-feasible.ensures
     (point-unknown _ _ c.before.if1.false ∙ r.minimum.ensures)
 

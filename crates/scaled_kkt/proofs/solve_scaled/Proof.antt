@@ -4,7 +4,7 @@ use Rattle.pivoting.specs.Laws.{taken-below}
 use Rattle.constraints.specs.Laws.{new-parts}
 use Rattle.constraints.specs.Room.{rows_fit, range-fits, null-fits}
 use Rattle.scaled.specs.System.{square-fits, entries-fits}
-use Rattle.scaled_kkt.specs.ScaledKkt.{solveScaled}
+use Rattle.scaled_kkt.specs.ScaledKkt.{solve_scaled}
 use Rattle.scaled_kkt.proofs.solve_scaled.Statement.{statement}
 use Rattle.scaled_kkt.proofs.solve_scaled.Tie as tie
 
@@ -20,10 +20,10 @@ new-requires c κs =
     record {
       few = p.0.few;
       columns = p.0.columns;
-      e-holds = p.0.e-holds;
-      coefficients-room = p.1;
-      range-room = p.2;
-      null-room = p.3;
+      e_holds = p.0.e_holds;
+      coefficients_room = p.1;
+      range_room = p.2;
+      null_room = p.3;
     }
 
 -- what counts of Y, Z and T is not larger than K or E
@@ -78,7 +78,7 @@ solve-over-requires c κs =
     )
 
 returns : tie.Need-returns
-unfolding solveScaled
+unfolding solve_scaled
 returns c =
     let s = c.before.before.before.before.before in
     c.solve-over.ensures ∙ rw (s.smaller-of.ensures, new-parts _ _ _ _ _ _ _ (new-at s.before).new.ensures.0)

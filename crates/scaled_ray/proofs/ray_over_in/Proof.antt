@@ -2,7 +2,7 @@ use Rattle.folds.specs.Kit.{◌≡◌, ◌≤◌, ◌*◌, sym, ◌∙◌, arith
 use Rattle.folds.specs.Cell.{area}
 use native.Mathlib.Nat.{le_trans}
 use lib.Seq.{length-take-le}
-use Rattle.scaled_ray.specs.Laws.{ray-none, over-found, over_none}
+use Rattle.scaled_ray.specs.Laws.{ray_none, over-found, over-none}
 use Rattle.scaled_ray.proofs.ray_over_in.Statement.{statement}
 use Rattle.scaled_ray.proofs.ray_over_in.Tie as tie
 
@@ -51,7 +51,7 @@ returns c =
 returns-2 : tie.Need-returns-2
 returns-2 c =
     let h = hessian-at c.before.before in
-    ray-none _ _ c.refused.ensures ∙ over_none _ _ _ _ _ _ h.reduced-hessian.result c.before.if1.false h.reduced-hessian.ensures
+    ray_none _ _ c.refused.ensures ∙ over-none _ _ _ _ _ _ h.reduced-hessian.result c.before.if1.false h.reduced-hessian.ensures
 
 pub ray-over-in-spec : {M : Type 1} → statement M
 ray-over-in-spec =

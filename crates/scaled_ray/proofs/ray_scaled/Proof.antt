@@ -18,7 +18,7 @@ z-fits : (c : tie.After-new) → (start c).args.n * ((start c).args.n - c.new.re
 z-fits c = null-fits (start c).args.n c.new.result.rank
 
 slice-reshare-prefix-ray-over : tie.Need-slice-reshare-prefix-ray-over
-slice-reshare-prefix-ray-over c = omega (arith, z-fits (new-at c), (start (new-at c)).requires.2.null-room)
+slice-reshare-prefix-ray-over c = omega (arith, z-fits (new-at c), (start (new-at c)).requires.2.null_room)
 
 slice-aggregate-ray-over : tie.Need-slice-aggregate-ray-over
 slice-aggregate-ray-over c = sym (length-take-le _ _ (slice-reshare-prefix-ray-over c.before))

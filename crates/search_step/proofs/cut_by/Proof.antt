@@ -1,8 +1,8 @@
 use Rattle.folds.specs.Kit.{sym, ◌∙◌, arith, needs}
 use lib.Seq.{length-take-le}
-use Rattle.minimum.specs.Laws.{minimized-optimal, minimized-nonFinite, minimized-singular, minimized-unbounded, minimized-notConverged}
-use Rattle.search_step.specs.Step.{cutBy, ended}
-use Rattle.search_step.specs.Laws.{cut-found, cut-past, cut-unbounded}
+use Rattle.minimum.specs.Laws.{minimized-optimal, minimized-non_finite, minimized-singular, minimized-unbounded, minimized-not_converged}
+use Rattle.search_step.specs.Step.{cut_by, ended}
+use Rattle.search_step.specs.Laws.{cut-found, cut_past, cut-unbounded}
 use Rattle.search_step.proofs.cut_by.Statement.{statement}
 use Rattle.search_step.proofs.cut_by.Tie as tie
 
@@ -30,7 +30,7 @@ returns-2 c w =
     let k = c.before.before in
     let t = k.before.before.before in
     rw (t.before.before.enum_told.given.1, minimized-optimal)
-    (cut-past _ w _ _ _ _ _ _ _ t.turnover.ensures (sym k.before.within.ensures ∙ k.if1.false)
+    (cut_past _ w _ _ _ _ _ _ _ t.turnover.ensures (sym k.before.within.ensures ∙ k.if1.false)
     c.before.exceed.ensures
     (c.more2.ensures _ w))
 
@@ -41,16 +41,16 @@ returns-3 c w =
     (c.more3.ensures _ w))
 
 returns-4 : tie.Need-returns-4
-unfolding cutBy ended
-returns-4 c w = rw (c.before.enum-told3.given.1, minimized-nonFinite) (c.ended.ensures _ w)
+unfolding cut_by ended
+returns-4 c w = rw (c.before.enum-told3.given.1, minimized-non_finite) (c.ended.ensures _ w)
 
 returns-5 : tie.Need-returns-5
-unfolding cutBy ended
+unfolding cut_by ended
 returns-5 c w = rw (c.before.enum-told4.given.1, minimized-singular) (c.ended2.ensures _ w)
 
 returns-6 : tie.Need-returns-6
-unfolding cutBy ended
-returns-6 c w = rw (c.before.enum-told5.given.1, minimized-notConverged) (c.ended3.ensures _ w)
+unfolding cut_by ended
+returns-6 c w = rw (c.before.enum-told5.given.1, minimized-not_converged) (c.ended3.ensures _ w)
 
 pub cut-by-spec : {M : Type 1} → statement M
 cut-by-spec =

@@ -1,8 +1,8 @@
 use Rattle.folds.specs.Kit.{sym, ◌∙◌, arith, needs}
 use lib.Seq.{length-take-le}
-use Rattle.minimum.specs.Laws.{minimized-optimal, minimized-nonFinite, minimized-singular, minimized-unbounded, minimized-notConverged}
-use Rattle.search_step.specs.Step.{doubleBy, ended}
-use Rattle.search_step.specs.Laws.{double-found, double-past, double-unbounded}
+use Rattle.minimum.specs.Laws.{minimized-optimal, minimized-non_finite, minimized-singular, minimized-unbounded, minimized-not_converged}
+use Rattle.search_step.specs.Step.{double_by, ended}
+use Rattle.search_step.specs.Laws.{double-found, double_past, double-unbounded}
 use Rattle.search_step.proofs.double_by.Statement.{statement}
 use Rattle.search_step.proofs.double_by.Tie as tie
 
@@ -30,7 +30,7 @@ returns-2 c w =
     let k = c.before.before.before in
     let t = k.before.before.before in
     rw (t.before.before.enum_told.given.1, minimized-optimal)
-    (double-past _ w _ _ _ _ _ _ _ t.turnover.ensures (sym k.before.within.ensures ∙ k.if1.false)
+    (double_past _ w _ _ _ _ _ _ _ t.turnover.ensures (sym k.before.within.ensures ∙ k.if1.false)
     c.before.before.exceed.ensures
     c.before.warmed.ensures (c.double-on.ensures _ w))
 
@@ -41,16 +41,16 @@ returns-3 c w =
     (c.double-on2.ensures _ w))
 
 returns-4 : tie.Need-returns-4
-unfolding doubleBy ended
-returns-4 c w = rw (c.before.enum-told3.given.1, minimized-nonFinite) (c.ended2.ensures _ w)
+unfolding double_by ended
+returns-4 c w = rw (c.before.enum-told3.given.1, minimized-non_finite) (c.ended2.ensures _ w)
 
 returns-5 : tie.Need-returns-5
-unfolding doubleBy ended
+unfolding double_by ended
 returns-5 c w = rw (c.before.enum-told4.given.1, minimized-singular) (c.ended3.ensures _ w)
 
 returns-6 : tie.Need-returns-6
-unfolding doubleBy ended
-returns-6 c w = rw (c.before.enum-told5.given.1, minimized-notConverged) (c.ended4.ensures _ w)
+unfolding double_by ended
+returns-6 c w = rw (c.before.enum-told5.given.1, minimized-not_converged) (c.ended4.ensures _ w)
 
 pub double-by-spec : {M : Type 1} → statement M
 double-by-spec =

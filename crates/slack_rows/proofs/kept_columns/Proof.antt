@@ -1,7 +1,7 @@
 use Rattle.folds.specs.Kit.{◌≡◌, refl, ◌-◌, ◌≤◌, arith, length, over, kit}
 use Rattle.folds.specs.Chosen.{chosen, chosen-step}
 use native.Mathlib.Nat.{le_antisymm}
-use Rattle.slack_rows.specs.SlackRows.{keeps, keptColumns}
+use Rattle.slack_rows.specs.SlackRows.{keeps, kept_columns}
 use Rattle.slack_rows.proofs.kept_columns.Statement.{statement}
 use Rattle.slack_rows.proofs.kept_columns.Tie as tie
 
@@ -32,7 +32,7 @@ loop-again c =
     (omega arith, omega (arith, p.push-if.ensures.1), omega arith, s.0, s.1)
 
 returns : tie.Need-returns invariant-loop decreases-loop
-unfolding keptColumns
+unfolding kept_columns
 returns c =
     let inv = c.before.loop.invariant in
     let z = le_antisymm inv.0 c.loop-test.false in (rw (← z) inv.3, rw (← z) inv.4)

@@ -1,7 +1,7 @@
 use Rattle.folds.specs.Kit.{needs}
 use Rattle.vector.specs.Laws.{length-copy}
-use Rattle.slack_scales.specs.Chain.{part-chain}
-use Rattle.slack_scales.specs.Laws.{length-slackScales, scales-known}
+use Rattle.slack_scales.specs.Chain.{part_chain}
+use Rattle.slack_scales.specs.Laws.{length-slack_scales, scales_known}
 use Rattle.slack_scales.proofs.scales_with_slacks.Statement.{statement}
 use Rattle.slack_scales.proofs.scales_with_slacks.Tie as tie
 
@@ -22,5 +22,5 @@ scales-with-slacks-spec =
     (λ c κs. search needs)  -- slack-scales-requires
     (λ c. let p = c.before.before.before.before.before in
     let d = p.before.before.before.diagonal-scales in
-    scales-known _ _ _ _ d.result d.ensures
-    (part-chain _ _ _ _ _ _ _ (length-copy _ _) (length-slackScales _ _ _ _) p.copy.ensures c.before.slack-scales.ensures)))  -- returns
+    scales_known _ _ _ _ d.result d.ensures
+    (part_chain _ _ _ _ _ _ _ (length-copy _ _) (length-slack_scales _ _ _ _) p.copy.ensures c.before.slack-scales.ensures)))  -- returns

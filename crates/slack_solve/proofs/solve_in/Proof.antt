@@ -2,7 +2,7 @@ use Rattle.folds.specs.Kit.{sym, arith, needs}
 use lib.Seq.{length-take-le}
 use Rattle.folds.specs.Cell.{small-fits}
 use Rattle.folds.specs.Tab.{taken-over}
-use Rattle.slacks.specs.Laws.{length-withSlacksQ, length-withSlacksE}
+use Rattle.slacks.specs.Laws.{length-with_slacks_q, length-with_slacks_e}
 use Rattle.slack_solve.specs.Laws.{solve-from}
 use Rattle.slack_solve.proofs.solve_in.Statement.{statement}
 use Rattle.slack_solve.proofs.solve_in.Tie as tie
@@ -16,7 +16,7 @@ with-slacks-q-requires c κs = let p = (start c.before).requires in (p.0.origina
 with-slacks-e-requires : tie.Need-with-slacks-e-requires
 with-slacks-e-requires c κs =
     let p = (start c.before.before.before.before.before).requires in
-    (p.0.originals, p.0.equalities, p.0.rows, p.2, p.0.a-holds, p.4)
+    (p.0.originals, p.0.equalities, p.0.rows, p.2, p.0.a_holds, p.4)
 
 slice-relend-prefix-solve-with-slacks : tie.Need-slice-relend-prefix-solve-with-slacks
 slice-relend-prefix-solve-with-slacks c = omega (arith, (start c.before.before.before.before.before.before.before.before).requires.3)
@@ -38,8 +38,8 @@ solve-with-slacks-requires c κs =
 returns : tie.Need-returns
 returns c =
     let e = c.before.before.before.before.before.before.before.before.before in
-    solve-from _ _ _ _ _ _ _ _ _ _ _ _ _ _ _ (taken-over _ _ (length-withSlacksQ _ _ _) e.before.before.before.before.with-slacks-q.ensures)
-    (taken-over _ _ (length-withSlacksE _ _ _ _ _) e.with-slacks-e.ensures)
+    solve-from _ _ _ _ _ _ _ _ _ _ _ _ _ _ _ (taken-over _ _ (length-with_slacks_q _ _ _) e.before.before.before.before.with-slacks-q.ensures)
+    (taken-over _ _ (length-with_slacks_e _ _ _ _ _) e.with-slacks-e.ensures)
     c.before.before.before.before.solve-with-slacks.ensures
 
 pub solve-in-spec : {M : Type 1} → statement M

@@ -3,7 +3,7 @@ use lib.Seq.{length-take-le}
 use Rattle.folds.specs.Tab.{taken-over}
 use Rattle.sizes.specs.Sizes as Sizes
 use Rattle.vector.specs.Laws.{length-div}
-use Rattle.slacks.specs.Laws.{withZeros-taken}
+use Rattle.slacks.specs.Laws.{with_zeros-taken}
 use Rattle.slack_solve.specs.Laws.{scaled-from}
 use Rattle.slack_solve.proofs.solve_scaled.Statement.{statement}
 use Rattle.slack_solve.proofs.solve_scaled.Tie as tie
@@ -21,7 +21,7 @@ zeros c = c.before.before.before.before.before.before.before.before
 copy-requires-2 : tie.Need-copy-requires-2
 copy-requires-2 c κs =
     let p = (first c.before.before.before).requires.0 in
-    (p.b-holds, omega (arith, p.equalities))
+    (p.b_holds, omega (arith, p.equalities))
 
 slice-aggregate-div : tie.Need-slice-aggregate-div
 slice-aggregate-div c =
@@ -49,12 +49,12 @@ all-segments-requires c κs =
     record {
       originals = p.0.originals;
       rows = p.0.rows;
-      lowers = p.0.lower-holds;
-      uppers = p.0.upper-holds;
-      kinks = p.0.at-holds;
-      kinkSlopes = p.0.slopes-hold;
-      rowLowers = p.0.rowLower-holds;
-      rowUppers = p.0.rowUpper-holds;
+      lowers = p.0.lower_holds;
+      uppers = p.0.upper_holds;
+      kinks = p.0.at_holds;
+      kink_slopes = p.0.slopes_hold;
+      row_lowers = p.0.row_lower_holds;
+      row_uppers = p.0.row_upper_holds;
       scaled = p.3;
     }
 
@@ -82,10 +82,10 @@ engine-sized-requires c κs =
         variables = omega (arith, p.0.originals, p.0.rows);
         columns = omega (arith, p.0.equalities, p.0.rows);
         slacks = omega arith;
-        q-holds = p.1;
-        c-holds = omega (arith, slice-aggregate-engine-sized c.before.before);
-        e-holds = p.2;
-        b-holds = omega (arith, slice-aggregate-engine-sized-2 c.before);
+        q_holds = p.1;
+        c_holds = omega (arith, slice-aggregate-engine-sized c.before.before);
+        e_holds = p.2;
+        b_holds = omega (arith, slice-aggregate-engine-sized-2 c.before);
       },
       c.before.before.before.before.all-segments.ensures.1,
       omega (arith, slice-aggregate-engine-sized-3 c),
@@ -99,8 +99,8 @@ returns c =
     let z = zeros u in
     let p = (start z).pre.0 in
     scaled-from _ _ _ _ _ _ _ _ _ _ _ _ _ _ _ _ _
-    (withZeros-taken _ _ _ Sizes.variables (omega (arith, p.originals, p.rows)) z.before.before.before.before.copy.ensures)
-    (withZeros-taken _ _ _ Sizes.columns (omega (arith, p.equalities, p.rows)) z.before.copy2.ensures)
+    (with_zeros-taken _ _ _ Sizes.variables (omega (arith, p.originals, p.rows)) z.before.before.before.before.copy.ensures)
+    (with_zeros-taken _ _ _ Sizes.columns (omega (arith, p.equalities, p.rows)) z.before.copy2.ensures)
     (taken-over _ _ (length-div _ _ _) u.before.before.before.before.before.div.ensures)
     (taken-over _ _ (length-div _ _ _) u.before.div2.ensures)
     c.before.before.before.before.before.all-segments.ensures.0
@@ -117,7 +117,7 @@ solve-scaled-spec =
     omega (arith, p.equalities, p.rows))  -- add-w
     (λ c. search needs)  -- slice-aggregate-copy
     (λ c κs. let p = (first c).requires.0 in
-    (p.c-holds, omega (arith, p.originals)))  -- copy-requires
+    (p.c_holds, omega (arith, p.originals)))  -- copy-requires
     (λ c. search needs)  -- slice-aggregate-copy-2
     copy-requires-2
     (λ c. let p = (start c).requires.0 in
@@ -132,7 +132,7 @@ solve-scaled-spec =
     div-requires-2
     all-segments-requires
     (λ c κs. let p = (start (zeros c.before)).requires in
-    (p.0.originals, p.0.rows, p.0.start-holds, p.0.a-holds, p.3))  -- slacks-start-requires
+    (p.0.originals, p.0.rows, p.0.start_holds, p.0.a_holds, p.3))  -- slacks-start-requires
     (λ c. let p = (start (zeros c.before.before)).requires.0 in
     omega (arith, p.originals, p.rows))  -- array-share-prefix-uc
     slice-aggregate-engine-sized

@@ -1,9 +1,9 @@
 use Rattle.folds.specs.Kit.{◌+◌, ◌≤◌, sym, ◌∙◌, arith, length}
 use lib.Seq.{length-take-le}
 use Rattle.folds.specs.Tab.{over-whole}
-use Rattle.units.specs.Laws.{length-unitsK, length-unitsE}
-use Rattle.minimum.specs.Laws.{minimizedOf-minimized}
-use Rattle.slack_solve.specs.Laws.{with-slacks-from}
+use Rattle.units.specs.Laws.{length-units_k, length-units_e}
+use Rattle.minimum.specs.Laws.{minimized_of-minimized}
+use Rattle.slack_solve.specs.Laws.{with_slacks-from}
 use Rattle.slack_solve.proofs.solve_with_slacks.Statement.{statement}
 use Rattle.slack_solve.proofs.solve_with_slacks.Tie as tie
 
@@ -68,11 +68,11 @@ original-requires c κs =
       originals = p.0.originals;
       equalities = p.0.equalities;
       rows = p.0.rows;
-      e-holds = p.1;
-      b-holds = p.0.b-holds;
-      a-holds = p.0.a-holds;
-      rowLower-holds = p.0.rowLower-holds;
-      rowUpper-holds = p.0.rowUpper-holds;
+      e_holds = p.1;
+      b_holds = p.0.b_holds;
+      a_holds = p.0.a_holds;
+      row_lower_holds = p.0.row_lower_holds;
+      row_upper_holds = p.0.row_upper_holds;
       scales-hold = omega (arith, slice-aggregate-original c.before);
       columns-hold = omega (arith, slice-aggregate-original-2 c);
     }
@@ -82,10 +82,10 @@ returns c =
     let e = c.before.before.before.before.before.before.before.before.before.before in
     let s = columns-at e in
     let p = (start s).pre in
-    with-slacks-from _ _ _ _ _ _ _ _ _ _ _ _ _ _ _ _ s.before.before.scales-with-slacks.ensures s.column-scales.ensures
-    (over-whole _ _ (length-unitsK _ _ _) p.2 e.before.before.before.before.before.before.before.before.units-k.ensures)
-    (over-whole _ _ (length-unitsE _ _ _ _ _) p.3 e.before.before.units-e.ensures)
-    (sym (minimizedOf-minimized _ _ _) ∙ c.before.before.before.before.before.solve-scaled.ensures)
+    with_slacks-from _ _ _ _ _ _ _ _ _ _ _ _ _ _ _ _ s.before.before.scales-with-slacks.ensures s.column-scales.ensures
+    (over-whole _ _ (length-units_k _ _ _) p.2 e.before.before.before.before.before.before.before.before.units-k.ensures)
+    (over-whole _ _ (length-units_e _ _ _ _ _) p.3 e.before.before.units-e.ensures)
+    (sym (minimized_of-minimized _ _ _) ∙ c.before.before.before.before.before.solve-scaled.ensures)
     c.original.ensures
 
 pub solve-with-slacks-spec : {M : Type 1} → statement M
@@ -97,7 +97,7 @@ solve-with-slacks-spec =
     (λ c. let p = c.before.before.before.before.before.before.before.before.before.before.before.before.before.requires.0 in
     omega (arith, p.equalities, p.rows))  -- add-w
     (λ c κs. let p = c.before.before.before.before.before.before.before.before.before.before.before.before.before.before.requires in
-    (p.0.originals, p.0.rows, omega (arith, p.2), p.0.a-holds))  -- scales-with-slacks-requires
+    (p.0.originals, p.0.rows, omega (arith, p.2), p.0.a_holds))  -- scales-with-slacks-requires
     (λ c κs. let s = c.before.before in
     let p = s.before.before.before.before.before.before.before.before.before.before.before.before.before.before.requires in
     (omega (arith, p.0.equalities, p.0.rows), omega (arith, p.3)))  -- column-scales-requires

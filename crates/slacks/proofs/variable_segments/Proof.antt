@@ -1,10 +1,10 @@
 use Rattle.folds.specs.Kit.{needs}
-use Rattle.slacks.specs.Slacks.{variableSegments}
+use Rattle.slacks.specs.Slacks.{variable_segments}
 use Rattle.slacks.proofs.variable_segments.Statement.{statement}
 use Rattle.slacks.proofs.variable_segments.Tie as tie
 
 pub variable-segments-spec : {M : Type 1} → statement M
-unfolding variableSegments
+unfolding variable_segments
 variable-segments-spec =
     tie.close
     (tie.spec

@@ -1,7 +1,7 @@
 use Rattle.folds.specs.Kit.{refl, sym, ◌∙◌, arith, length, needs, pick}
 use lib.Seq.{length-take-le}
 use Rattle.solution.specs.Solution.{judge, judged}
-use Rattle.solution.specs.Laws.{solution-solved, solution-noOptimum, solution-singular}
+use Rattle.solution.specs.Laws.{solution_solved, solution_no_optimum, solution_singular}
 use Rattle.solution.proofs.judged.Statement.{statement}
 use Rattle.solution.proofs.judged.Tie as tie
 
@@ -37,7 +37,7 @@ returns-2 : tie.Need-returns-2
 unfolding judge judged
 returns-2 c =
     let t = c.before.before.before in
-    solution-singular _ _ _ c.refused.ensures
+    solution_singular _ _ _ c.refused.ensures
     ∙ rw (← t.before.kkt-residual.ensures, ← t.within-rounding.ensures, c.before.enum_told.given.1)
 
 enum-told-2 : tie.Need-enum-told-2
@@ -50,7 +50,7 @@ returns-3 : tie.Need-returns-3
 unfolding judge judged
 returns-3 c =
     let t = c.before.before.before in
-    solution-noOptimum _ _ _ c.refused2.ensures
+    solution_no_optimum _ _ _ c.refused2.ensures
     ∙ rw (← t.before.kkt-residual.ensures, ← t.within-rounding.ensures, c.before.enum-told2.given.1)
 
 enum-told-3 : tie.Need-enum-told-3
@@ -70,7 +70,7 @@ unfolding judge judged pick
 returns c =
     let t = c.before.before.before.before.before in
     let f = c.before.before.before.enum-told3.given.1 in
-    solution-solved _ _ _ refl
+    solution_solved _ _ _ refl
     ∙ rw (← t.before.kkt-residual.ensures, ← t.within-rounding.ensures, f, ← c.before.all-finite.ensures, c.if1.true)
 
 refused-requires-3 : tie.Need-refused-requires-3
@@ -81,7 +81,7 @@ unfolding judge judged pick
 returns-4 c =
     let t = c.before.before.before.before.before.before in
     let f = c.before.before.before.before.enum-told3.given.1 in
-    solution-singular _ _ _ c.refused3.ensures
+    solution_singular _ _ _ c.refused3.ensures
     ∙ rw (← t.before.kkt-residual.ensures, ← t.within-rounding.ensures, f, ← c.before.before.all-finite.ensures, c.before.if1.false)
 
 pub judged-spec : {M : Type 1} → statement M

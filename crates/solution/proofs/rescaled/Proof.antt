@@ -1,6 +1,6 @@
 use Rattle.folds.specs.Kit.{sym, ◌∙◌, arith, length, needs}
 use lib.Seq.{length-take-le}
-use Rattle.solution.specs.Laws.{solution-answer, rescaled-answer}
+use Rattle.solution.specs.Laws.{solution_answer, rescaled-answer}
 use Rattle.solution.proofs.rescaled.Statement.{statement}
 use Rattle.solution.proofs.rescaled.Tie as tie
 
@@ -14,7 +14,7 @@ rescaled-multipliers-requires : tie.Need-rescaled-multipliers-requires
 rescaled-multipliers-requires c κs = (omega arith, omega (arith, slice-aggregate-rescaled-multipliers c), omega arith)
 
 returns : tie.Need-returns
-returns c = solution-answer _ _ _ ∙ rescaled-answer _ _ _ _ _ _ c.rescaled-multipliers.ensures
+returns c = solution_answer _ _ _ ∙ rescaled-answer _ _ _ _ _ _ c.rescaled-multipliers.ensures
 
 pub rescaled-spec : {M : Type 1} → statement M
 rescaled-spec =

@@ -1,6 +1,6 @@
 use Rattle.folds.specs.Kit.{◌≡◌, ◌-◌, ◌≤◌, length, set, fold, over-kit}
 use Rattle.arith.specs.Float.{fmul, fdiv, at}
-use Rattle.solution.specs.Solution.{rescaledMultipliers}
+use Rattle.solution.specs.Solution.{rescaled_multipliers}
 use Rattle.solution.proofs.write_rescaled.Statement.{statement}
 use Rattle.solution.proofs.write_rescaled.Tie as tie
 
@@ -12,7 +12,7 @@ abbrev decreases-loop : tie.decreases-loop
 decreases-loop multipliers scale columns m y₀ j₀ y j = m - j
 
 pub write-rescaled-spec : {M : Type 1} → statement M
-unfolding rescaledMultipliers
+unfolding rescaled_multipliers
 write-rescaled-spec =
     tie.close
     (tie.spec invariant-loop decreases-loop

@@ -1,7 +1,7 @@
-use Rattle.folds.specs.Kit.{◌≡◌, ◌-◌, ◌≤◌, arith, fold, kit, fold-call, fold_end, ◌∙◌}
+use Rattle.folds.specs.Kit.{◌≡◌, ◌-◌, ◌≤◌, arith, fold, kit, fold_call, fold_end, ◌∙◌}
 use Rattle.arith.specs.Scalar.{abs, max}
 use Rattle.arith.specs.Float.{at}
-use Rattle.starting.specs.Starting.{slopesAmax}
+use Rattle.starting.specs.Starting.{slopes_amax}
 use Rattle.starting.proofs.slopes_amax.Statement.{statement}
 use Rattle.starting.proofs.slopes_amax.Tie as tie
 
@@ -12,10 +12,10 @@ abbrev decreases-loop : tie.decreases-loop
 decreases-loop from slopes last m₀ j₀ m j = last - j
 
 loop-again : tie.Need-loop-preserved invariant-loop decreases-loop
-loop-again c = (omega arith, fold-call _ _ _ c.before.before.before.loop.invariant.1 (rw (c.max.ensures, c.before.abs.ensures)))
+loop-again c = (omega arith, fold_call _ _ _ c.before.before.before.loop.invariant.1 (rw (c.max.ensures, c.before.abs.ensures)))
 
 returns : tie.Need-returns invariant-loop decreases-loop
-unfolding slopesAmax
+unfolding slopes_amax
 returns c =
     fold_end _ _ _ _ c.before.loop.invariant.0 c.loop-test.false c.before.loop.invariant.1 ∙ rw c.before.before.last.ensures
 

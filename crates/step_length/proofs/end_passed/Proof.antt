@@ -1,10 +1,10 @@
 use Rattle.folds.specs.Kit.{pick}
-use Rattle.step_length.specs.StepLength.{endPassed}
+use Rattle.step_length.specs.StepLength.{end_passed}
 use Rattle.step_length.proofs.end_passed.Statement.{statement}
 use Rattle.step_length.proofs.end_passed.Tie as tie
 
 pub end-passed-spec : {M : Type 1} → statement M
-unfolding endPassed pick
+unfolding end_passed pick
 end-passed-spec =
     tie.close
     (tie.spec

@@ -1,10 +1,10 @@
 use Rattle.folds.specs.Kit.{kit, pick}
-use Rattle.step_length.specs.StepLength.{endReached}
+use Rattle.step_length.specs.StepLength.{end_reached}
 use Rattle.step_length.proofs.end_reached.Statement.{statement}
 use Rattle.step_length.proofs.end_reached.Tie as tie
 
 pub end-reached-spec : {M : Type 1} → statement M
-unfolding endReached pick
+unfolding end_reached pick
 end-reached-spec =
     tie.close
     (tie.spec

@@ -1,20 +1,20 @@
-use Rattle.folds.specs.Kit.{◌≡◌, ◌-◌, ◌≤◌, arith, fold-call, kit}
-use Rattle.folds.specs.Best.{bestOf}
+use Rattle.folds.specs.Kit.{◌≡◌, ◌-◌, ◌≤◌, arith, fold_call, kit}
+use Rattle.folds.specs.Best.{best_of}
 use Rattle.arith.specs.Float.{at}
-use Rattle.step_length.specs.StepLength.{asBest, shorter, endPassed, firstPassed}
-use Rattle.step_length.specs.Laws.{least-end}
+use Rattle.step_length.specs.StepLength.{as_best, shorter, end_passed, first_passed}
+use Rattle.step_length.specs.Laws.{least_end}
 use Rattle.step_length.proofs.first_passed.Statement.{statement}
 use Rattle.step_length.proofs.first_passed.Tie as tie
 
 abbrev invariant-loop : tie.invariant-loop
 invariant-loop x target lower upper n tolerance best₀ k₀ best k =
-    (k ≤ n) × (asBest best ≡ bestOf shorter k (λ i. asBest (endPassed (at x i) (at target i) (at lower i) (at upper i) tolerance i)))
+    (k ≤ n) × (as_best best ≡ best_of shorter k (λ i. as_best (end_passed (at x i) (at target i) (at lower i) (at upper i) tolerance i)))
 
 abbrev decreases-loop : tie.decreases-loop
 decreases-loop x target lower upper n tolerance best₀ k₀ best k = n - k
 
 pub first-passed-spec : {M : Type 1} → statement M
-unfolding firstPassed asBest bestOf
+unfolding first_passed as_best best_of
 first-passed-spec =
     tie.close
     (tie.spec invariant-loop decreases-loop
@@ -33,5 +33,5 @@ first-passed-spec =
     (λ c. search kit)  -- loop-less
     (λ c. let e = c.before in
     let at = e.before.before.before.before.before.before.loop in
-    (omega arith, fold-call _ _ _ at.invariant.1 (rw (c.min-by.ensures, e.end-passed.ensures))))  -- loop-again
-    (λ c. least-end _ _ (search kit)))  -- returns
+    (omega arith, fold_call _ _ _ at.invariant.1 (rw (c.min-by.ensures, e.end-passed.ensures))))  -- loop-again
+    (λ c. least_end _ _ (search kit)))  -- returns

@@ -2,7 +2,7 @@ use Rattle.folds.specs.Kit.{◌≡◌, ℕ, kit, pick}
 use lib.Ieee.{Float}
 use Rattle.folds.specs.Best.{Best, found, better}
 use Rattle.step_length.specs.declared.Side.{Side}
-use Rattle.step_length.specs.StepLength.{asBest, shorter}
+use Rattle.step_length.specs.StepLength.{as_best, shorter}
 use Rattle.step_length.proofs.min_by.Statement.{statement}
 use Rattle.step_length.proofs.min_by.Tie as tie
 
@@ -18,7 +18,7 @@ unfolding better
 tested c = rw c.total-less.ensures
 
 pub min-by-spec : {M : Type 1} → statement M
-unfolding asBest pick
+unfolding as_best pick
 min-by-spec =
     tie.close
     (tie.spec

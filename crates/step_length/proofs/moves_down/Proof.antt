@@ -1,10 +1,10 @@
 use Rattle.folds.specs.Kit.{kit, both}
-use Rattle.step_length.specs.StepLength.{movesDown}
+use Rattle.step_length.specs.StepLength.{moves_down}
 use Rattle.step_length.proofs.moves_down.Statement.{statement}
 use Rattle.step_length.proofs.moves_down.Tie as tie
 
 pub moves-down-spec : {M : Type 1} → statement M
-unfolding movesDown both
+unfolding moves_down both
 moves-down-spec =
     tie.close
     (tie.spec

@@ -1,10 +1,10 @@
 use Rattle.folds.specs.Kit.{kit, both}
-use Rattle.step_length.specs.StepLength.{movesUp}
+use Rattle.step_length.specs.StepLength.{moves_up}
 use Rattle.step_length.proofs.moves_up.Statement.{statement}
 use Rattle.step_length.proofs.moves_up.Tie as tie
 
 pub moves-up-spec : {M : Type 1} → statement M
-unfolding movesUp both
+unfolding moves_up both
 moves-up-spec =
     tie.close
     (tie.spec

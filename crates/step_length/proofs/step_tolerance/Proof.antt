@@ -1,10 +1,10 @@
 use Rattle.folds.specs.Kit.{kit}
-use Rattle.step_length.specs.StepLength.{stepTolerance}
+use Rattle.step_length.specs.StepLength.{step_tolerance}
 use Rattle.step_length.proofs.step_tolerance.Statement.{statement}
 use Rattle.step_length.proofs.step_tolerance.Tie as tie
 
 pub step-tolerance-spec : {M : Type 1} → statement M
-unfolding stepTolerance
+unfolding step_tolerance
 step-tolerance-spec =
     tie.close
     (tie.spec

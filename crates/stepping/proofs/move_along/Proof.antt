@@ -1,19 +1,19 @@
-use Rattle.folds.specs.Kit.{◌≡◌, ◌-◌, ◌<◌, ◌≤◌, arith, length, length-set, set, fold, fold-call, kit}
+use Rattle.folds.specs.Kit.{◌≡◌, ◌-◌, ◌<◌, ◌≤◌, arith, length, length-set, set, fold, fold_call, kit}
 use Rattle.arith.specs.Float.{fadd, fmul, at}
 use Rattle.arith.specs.Scalar.{clamp}
 use Rattle.matrix.specs.Matrix.{index}
-use Rattle.stepping.specs.Stepping.{moveAlong}
+use Rattle.stepping.specs.Stepping.{move_along}
 use Rattle.stepping.proofs.move_along.Statement.{statement}
 use Rattle.stepping.proofs.move_along.Tie as tie
 
 abbrev invariant-loop : tie.invariant-loop
-invariant-loop x₀ indices xFree direction step lower upper k₀ k-end x k =
+invariant-loop x₀ indices x_free direction step lower upper k₀ k-end x k =
     (k ≤ length indices)
     × (length x ≡ length x₀)
-    × (x ≡ fold k (λ t l. set l (index indices t) (clamp (fadd (at xFree t) (fmul step (at direction t))) (at lower t) (at upper t))) x₀)
+    × (x ≡ fold k (λ t l. set l (index indices t) (clamp (fadd (at x_free t) (fmul step (at direction t))) (at lower t) (at upper t))) x₀)
 
 abbrev decreases-loop : tie.decreases-loop
-decreases-loop x₀ indices xFree direction step lower upper k₀ k-end x k = length indices - k
+decreases-loop x₀ indices x_free direction step lower upper k₀ k-end x k = length indices - k
 
 -- the variable that is written
 below : (c : tie.In-loop invariant-loop decreases-loop) → let s = c.before.before.before.before.before.before.before.before in
@@ -23,7 +23,7 @@ below c =
     omega (arith, s.requires.0 c.before.loop.k c.loop-test.true, c.before.loop.invariant.1)
 
 pub move-along-spec : {M : Type 1} → statement M
-unfolding moveAlong
+unfolding move_along
 move-along-spec =
     tie.close
     (tie.spec invariant-loop decreases-loop
@@ -44,6 +44,6 @@ move-along-spec =
     (λ c. search kit)  -- add-k
     (λ c. search kit)  -- loop-less
     (λ c. let at = c.before.before.before.before.before.before.before.loop in
-    (omega arith, simp length-set at.invariant.1, fold-call _ _ _ at.invariant.2 (rw c.before.clamp.ensures)))  -- loop-again
+    (omega arith, simp length-set at.invariant.1, fold_call _ _ _ at.invariant.2 (rw c.before.clamp.ensures)))  -- loop-again
     (λ c. search kit)  -- same-length
     (λ c. search kit))  -- returns

@@ -1,7 +1,7 @@
 use Rattle.folds.specs.Kit.{◌≡◌, true, ◌-◌, ◌≤◌, all, alls, needs}
 use lib.Ieee.{eq}
 use Rattle.arith.specs.Float.{at}
-use Rattle.stepping.specs.Stepping.{samePoint}
+use Rattle.stepping.specs.Stepping.{same_point}
 use Rattle.stepping.proofs.same_point.Statement.{statement}
 use Rattle.stepping.proofs.same_point.Tie as tie
 
@@ -14,7 +14,7 @@ decreases-loop a b n i₀ i = n - i
 ruleset kit = (alls, needs)
 
 pub same-point-spec : {M : Type 1} → statement M
-unfolding samePoint
+unfolding same_point
 same-point-spec =
     tie.close
     (tie.spec invariant-loop decreases-loop

@@ -1,8 +1,8 @@
-use Rattle.folds.specs.Kit.{◌≡◌, false, ◌-◌, ◌<◌, ◌≤◌, arith, length, fold, fold-call, out, kit}
+use Rattle.folds.specs.Kit.{◌≡◌, false, ◌-◌, ◌<◌, ◌≤◌, arith, length, fold, fold_call, out, kit}
 use Rattle.arith.specs.Float.{at}
 use Rattle.arith.specs.Scalar.{clamp}
 use Rattle.matrix.specs.Matrix.{index}
-use Rattle.stepping.specs.Stepping.{settleOne, settle}
+use Rattle.stepping.specs.Stepping.{settle_one, settle}
 use Rattle.stepping.proofs.settle.Statement.{statement}
 use Rattle.stepping.proofs.settle.Tie as tie
 
@@ -10,7 +10,7 @@ abbrev invariant-loop : tie.invariant-loop
 invariant-loop x₀ indices target lower upper tolerance moved₀ k₀ k-end x moved k =
     (k ≤ length indices)
     × (length x ≡ length x₀)
-    × (out moved x ≡ fold k (λ t. settleOne (index indices t) (clamp (at target t) (at lower t) (at upper t)) tolerance) (out false x₀))
+    × (out moved x ≡ fold k (λ t. settle_one (index indices t) (clamp (at target t) (at lower t) (at upper t)) tolerance) (out false x₀))
 
 abbrev decreases-loop : tie.decreases-loop
 decreases-loop x₀ indices target lower upper tolerance moved₀ k₀ k-end x moved k = length indices - k
@@ -43,6 +43,6 @@ settle-spec =
     (λ c. let one = c.before.before in
     let clamped = one.before.before.before in
     let at = clamped.before.before.before.before.before.loop in
-    (omega arith, omega arith, fold-call _ _ _ at.invariant.2 (rw (one.settle-one.ensures, clamped.clamp.ensures))))  -- loop-again
+    (omega arith, omega arith, fold_call _ _ _ at.invariant.2 (rw (one.settle-one.ensures, clamped.clamp.ensures))))  -- loop-again
     (λ c. search kit)  -- same-length
     (λ c. search kit))  -- returns

@@ -1,10 +1,10 @@
 use Rattle.folds.specs.Kit.{kit, pick}
-use Rattle.stepping.specs.Stepping.{settleOne}
+use Rattle.stepping.specs.Stepping.{settle_one}
 use Rattle.stepping.proofs.settle_one.Statement.{statement}
 use Rattle.stepping.proofs.settle_one.Tie as tie
 
 pub settle-one-spec : {M : Type 1} → statement M
-unfolding settleOne pick
+unfolding settle_one pick
 settle-one-spec =
     tie.close
     (tie.spec

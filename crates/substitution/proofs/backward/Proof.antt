@@ -1,12 +1,12 @@
-use Rattle.folds.specs.Kit.{◌≡◌, ◌-◌, ◌<◌, ◌≤◌, arith, length, fold, fold-call, kit, length-set}
+use Rattle.folds.specs.Kit.{◌≡◌, ◌-◌, ◌<◌, ◌≤◌, arith, length, fold, fold_call, kit, length-set}
 use Rattle.matrix.specs.Matrix.{index}
-use Rattle.substitution.specs.Substitution.{backwardOne, backward}
+use Rattle.substitution.specs.Substitution.{backward_one, backward}
 use Rattle.substitution.proofs.backward.Statement.{statement}
 use Rattle.substitution.proofs.backward.Tie as tie
 
 abbrev invariant-loop : tie.invariant-loop
 invariant-loop coefficients p m h pivots rank lambda₀ t₀ lambda t =
-    (t ≤ rank) × (length lambda ≡ length lambda₀) × (lambda ≡ fold t (λ k. backwardOne p coefficients h pivots rank (rank - 1 - k)) lambda₀)
+    (t ≤ rank) × (length lambda ≡ length lambda₀) × (lambda ≡ fold t (λ k. backward_one p coefficients h pivots rank (rank - 1 - k)) lambda₀)
 
 abbrev decreases-loop : tie.decreases-loop
 decreases-loop coefficients p m h pivots rank lambda₀ t₀ lambda t = rank - t
@@ -20,10 +20,10 @@ multiplier-one-requires c κs =
     let r = c.before.before.before.before.before.before.before.before.before.requires in (r.0, r.2, r.3, r.4, omega arith, omega arith)
 
 loop-again : tie.Need-loop-preserved invariant-loop decreases-loop
-unfolding backwardOne
+unfolding backward_one
 loop-again c =
     let inv = c.before.before.before.before.before.loop.invariant in
-    (omega arith, simp length-set inv.1, fold-call _ _ _ inv.2 (rw c.multiplier-one.ensures))
+    (omega arith, simp length-set inv.1, fold_call _ _ _ inv.2 (rw c.multiplier-one.ensures))
 
 returns : tie.Need-returns invariant-loop decreases-loop
 unfolding backward

@@ -1,7 +1,7 @@
-use Rattle.folds.specs.Kit.{◌≡◌, ◌-◌, ◌≤◌, arith, fold-call, kit, fold_end}
+use Rattle.folds.specs.Kit.{◌≡◌, ◌-◌, ◌≤◌, arith, fold_call, kit, fold_end}
 use Rattle.arith.specs.Float.{at, fmul, sum}
 use Rattle.columns.specs.Columns.{cell}
-use Rattle.substitution.specs.Substitution.{feasibleOne}
+use Rattle.substitution.specs.Substitution.{feasible_one}
 use Rattle.substitution.proofs.feasible_one.Statement.{statement}
 use Rattle.substitution.proofs.feasible_one.Tie as tie
 
@@ -12,7 +12,7 @@ abbrev decreases-loop : tie.decreases-loop
 decreases-loop coefficients p m b j i u known₀ k₀ known k = i - k
 
 returns : tie.Need-returns invariant-loop decreases-loop
-unfolding feasibleOne
+unfolding feasible_one
 returns c =
     let b3 = c.before.before.before in
     let b7 = b3.before.before.before.before in
@@ -29,7 +29,7 @@ feasible-one-spec =
     (λ c. search kit)  -- shared-slice-read-known
     (λ c. search kit)  -- add-k
     (λ c. search kit)  -- loop-less
-    (λ c. (omega arith, fold-call _ _ _ c.before.before.before.loop.invariant.1 (rw c.before.get.ensures)))  -- loop-again
+    (λ c. (omega arith, fold_call _ _ _ c.before.before.before.loop.invariant.1 (rw c.before.get.ensures)))  -- loop-again
     (λ c. search kit)  -- mul-result
     (λ c. search kit)  -- shared-slice-read-result
     (λ c κs. search kit)  -- get-requires-2

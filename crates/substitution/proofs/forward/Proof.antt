@@ -1,12 +1,12 @@
-use Rattle.folds.specs.Kit.{◌≡◌, ◌-◌, ◌≤◌, arith, length, set, fold, fold-call, kit, length-set}
+use Rattle.folds.specs.Kit.{◌≡◌, ◌-◌, ◌≤◌, arith, length, set, fold, fold_call, kit, length-set}
 use Rattle.matrix.specs.Matrix.{index}
-use Rattle.substitution.specs.Substitution.{feasibleOne, forward}
+use Rattle.substitution.specs.Substitution.{feasible_one, forward}
 use Rattle.substitution.proofs.forward.Statement.{statement}
 use Rattle.substitution.proofs.forward.Tie as tie
 
 abbrev invariant-loop : tie.invariant-loop
 invariant-loop coefficients p m b pivots rank u₀ i₀ u i =
-    (i ≤ rank) × (length u ≡ length u₀) × (u ≡ fold i (λ k x. set x k (feasibleOne p coefficients b (index pivots k) k x)) u₀)
+    (i ≤ rank) × (length u ≡ length u₀) × (u ≡ fold i (λ k x. set x k (feasible_one p coefficients b (index pivots k) k x)) u₀)
 
 abbrev decreases-loop : tie.decreases-loop
 decreases-loop coefficients p m b pivots rank u₀ i₀ u i = rank - i
@@ -19,7 +19,7 @@ feasible-one-requires c κs =
 loop-again : tie.Need-loop-preserved invariant-loop decreases-loop
 loop-again c =
     let inv = c.before.before.before.before.loop.invariant in
-    (omega arith, simp length-set inv.1, fold-call _ _ _ inv.2 (rw c.feasible-one.ensures))
+    (omega arith, simp length-set inv.1, fold_call _ _ _ inv.2 (rw c.feasible-one.ensures))
 
 returns : tie.Need-returns invariant-loop decreases-loop
 unfolding forward

@@ -1,8 +1,8 @@
-use Rattle.folds.specs.Kit.{◌≡◌, ◌-◌, ◌<◌, ◌≤◌, arith, needs, kit, span, spans, span-call}
+use Rattle.folds.specs.Kit.{◌≡◌, ◌-◌, ◌<◌, ◌≤◌, arith, needs, kit, span, spans, span_call}
 use Rattle.arith.specs.Float.{at, fadd, fmul, f0}
 use Rattle.columns.specs.Columns.{cell}
 use Rattle.matrix.specs.Matrix.{index}
-use Rattle.substitution.specs.Substitution.{knownFrom}
+use Rattle.substitution.specs.Substitution.{known_from}
 use Rattle.substitution.proofs.known_from.Statement.{statement}
 use Rattle.substitution.proofs.known_from.Tie as tie
 
@@ -24,10 +24,10 @@ get-requires c κs = let r = c.before.before.before.before.before.before.require
 loop-again : tie.Need-loop-preserved invariant-loop decreases-loop
 loop-again c =
     let inv = c.before.before.before.before.loop.invariant in
-    (omega arith, omega arith, span-call _ _ _ _ inv.0 inv.2 (rw c.before.get.ensures))
+    (omega arith, omega arith, span_call _ _ _ _ inv.0 inv.2 (rw c.before.get.ensures))
 
 returns : tie.Need-returns invariant-loop decreases-loop
-unfolding knownFrom
+unfolding known_from
 returns c = search (spans, needs)
 
 pub known-from-spec : {M : Type 1} → statement M

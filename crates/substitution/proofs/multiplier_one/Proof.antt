@@ -1,5 +1,5 @@
 use Rattle.folds.specs.Kit.{arith, kit}
-use Rattle.substitution.specs.Substitution.{multiplierOne}
+use Rattle.substitution.specs.Substitution.{multiplier_one}
 use Rattle.substitution.proofs.multiplier_one.Statement.{statement}
 use Rattle.substitution.proofs.multiplier_one.Tie as tie
 
@@ -11,7 +11,7 @@ get-requires : tie.Need-get-requires
 get-requires c κs = let r = c.before.before.before.before.before.requires in (r.0, omega (arith, r.2, r.4), r.3 _ r.4)
 
 returns : tie.Need-returns
-unfolding multiplierOne
+unfolding multiplier_one
 returns c = rw (c.get.ensures, c.before.before.Known-from.ensures)
 
 pub multiplier-one-spec : {M : Type 1} → statement M

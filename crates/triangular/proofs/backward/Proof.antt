@@ -1,10 +1,10 @@
 use Rattle.folds.specs.Kit.{◌≡◌, ◌-◌, ◌≤◌, length, fold, kit}
-use Rattle.triangular.specs.Triangular.{unknownBack, backward}
+use Rattle.triangular.specs.Triangular.{unknown_back, backward}
 use Rattle.triangular.proofs.backward.Statement.{statement}
 use Rattle.triangular.proofs.backward.Tie as tie
 
 abbrev invariant-loop : tie.invariant-loop
-invariant-loop l n x₀ t₀ x t = (t ≤ n) × (length x ≡ length x₀) × (x ≡ fold t (λ k. unknownBack l n (n - 1 - k)) x₀)
+invariant-loop l n x₀ t₀ x t = (t ≤ n) × (length x ≡ length x₀) × (x ≡ fold t (λ k. unknown_back l n (n - 1 - k)) x₀)
 
 abbrev decreases-loop : tie.decreases-loop
 decreases-loop l n x₀ t₀ x t = n - t

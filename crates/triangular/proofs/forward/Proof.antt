@@ -1,4 +1,4 @@
-use Rattle.folds.specs.Kit.{◌≡◌, ◌-◌, ◌≤◌, arith, length, length-set, fold-call, kit}
+use Rattle.folds.specs.Kit.{◌≡◌, ◌-◌, ◌≤◌, arith, length, length-set, fold_call, kit}
 use Rattle.triangular.specs.Triangular.{forward, unknown}
 use Rattle.triangular.proofs.forward.Statement.{statement}
 use Rattle.triangular.proofs.forward.Tie as tie
@@ -16,6 +16,6 @@ forward-spec =
     (tie.spec invariant-loop decreases-loop (λ c. search kit) (λ c κs. search kit) (λ c. search kit) (λ c. search kit) (λ c κs. search kit) (λ c. search kit)
     (λ c. search kit) (λ c. search kit) (λ c. search kit)
     (λ c. let at = c.before.before.before.before.before.loop in
-    (omega arith, simp length-set at.invariant.1, fold-call _ _ _ at.invariant.2 (rw (c.get.ensures, c.before.before.known.ensures))))  -- loop-again
+    (omega arith, simp length-set at.invariant.1, fold_call _ _ _ at.invariant.2 (rw (c.get.ensures, c.before.before.known.ensures))))  -- loop-again
     (λ c. search kit)
     (λ c. search kit))  -- returns

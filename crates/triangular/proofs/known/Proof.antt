@@ -1,4 +1,4 @@
-use Rattle.folds.specs.Kit.{◌≡◌, ◌-◌, ◌≤◌, arith, fold-call, kit}
+use Rattle.folds.specs.Kit.{◌≡◌, ◌-◌, ◌≤◌, arith, fold_call, kit}
 use Rattle.triangular.specs.Triangular.{known}
 use Rattle.triangular.proofs.known.Statement.{statement}
 use Rattle.triangular.proofs.known.Tie as tie
@@ -14,5 +14,5 @@ unfolding known
 known-spec =
     tie.close
     (tie.spec invariant-loop decreases-loop (λ c. search kit) (λ c κs. search kit) (λ c. search kit) (λ c. search kit) (λ c. search kit) (λ c. search kit)
-    (λ c. (omega arith, fold-call _ _ _ c.before.before.before.loop.invariant.1 (rw c.before.get.ensures)))  -- loop-again
+    (λ c. (omega arith, fold_call _ _ _ c.before.before.before.loop.invariant.1 (rw c.before.get.ensures)))  -- loop-again
     (λ c. search kit))  -- returns

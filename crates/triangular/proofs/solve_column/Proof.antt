@@ -1,14 +1,14 @@
-use Rattle.folds.specs.Kit.{◌+◌, ◌*◌, ◌≤◌, arith, length, kit, col-end}
-use Rattle.folds.specs.Part.{part, withPart, with_out, onPartOut}
-use Rattle.triangular.specs.Triangular.{solveColumn}
+use Rattle.folds.specs.Kit.{◌+◌, ◌*◌, ◌≤◌, arith, length, kit, col_end}
+use Rattle.folds.specs.Part.{part, with_part, with_out, on_part_out}
+use Rattle.triangular.specs.Triangular.{solve_column}
 use Rattle.triangular.proofs.solve_column.Statement.{statement}
 use Rattle.triangular.proofs.solve_column.Tie as tie
 
 ends : (c : tie.Start) → c.args.n + c.args.j * c.args.n ≤ length c.args.x.now
-ends c = col-end _ _ c.args.m _ c.requires.1 c.requires.2
+ends c = col_end _ _ c.args.m _ c.requires.1 c.requires.2
 
 pub solve-column-spec : {M : Type 1} → statement M
-unfolding solveColumn onPartOut with_out withPart part
+unfolding solve_column on_part_out with_out with_part part
 solve-column-spec =
     tie.close
     (tie.spec

@@ -1,10 +1,10 @@
 use Rattle.folds.specs.Kit.{pick, kit}
-use Rattle.triangular.specs.Triangular.{solveLower}
+use Rattle.triangular.specs.Triangular.{solve_lower}
 use Rattle.triangular.proofs.solve_lower_triangular.Statement.{statement}
 use Rattle.triangular.proofs.solve_lower_triangular.Tie as tie
 
 pub solve-lower-triangular-spec : {M : Type 1} → statement M
-unfolding solveLower pick
+unfolding solve_lower pick
 solve-lower-triangular-spec =
     tie.close
     (tie.spec (λ c κs. search kit) (λ c κs. search kit) (λ c. search kit)

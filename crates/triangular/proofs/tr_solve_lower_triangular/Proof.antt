@@ -1,10 +1,10 @@
 use Rattle.folds.specs.Kit.{pick, kit}
-use Rattle.triangular.specs.Triangular.{trSolveLower}
+use Rattle.triangular.specs.Triangular.{tr_solve_lower}
 use Rattle.triangular.proofs.tr_solve_lower_triangular.Statement.{statement}
 use Rattle.triangular.proofs.tr_solve_lower_triangular.Tie as tie
 
 pub tr-solve-lower-triangular-spec : {M : Type 1} → statement M
-unfolding trSolveLower pick
+unfolding tr_solve_lower pick
 tr-solve-lower-triangular-spec =
     tie.close
     (tie.spec (λ c κs. search kit) (λ c κs. search kit) (λ c. search kit)

@@ -1,6 +1,6 @@
 use Rattle.folds.specs.Kit.{sym, ◌∙◌, arith, needs}
 use lib.Seq.{length-take-le}
-use Rattle.turnover.specs.Turnover.{kinkMultiplier}
+use Rattle.turnover.specs.Turnover.{kink_multiplier}
 use Rattle.turnover.proofs.kink_multiplier.Statement.{statement}
 use Rattle.turnover.proofs.kink_multiplier.Tie as tie
 
@@ -11,7 +11,7 @@ slice-aggregate-amax : tie.Need-slice-aggregate-amax
 slice-aggregate-amax c = sym (length-take-le _ _ (omega arith))
 
 returns : tie.Need-returns
-unfolding kinkMultiplier
+unfolding kink_multiplier
 returns c =
     let s = c.before.before.before in
     c.first-raise.ensures

@@ -1,5 +1,5 @@
 use Rattle.folds.specs.Kit.{◌≡◌, ◌-◌, ◌≤◌, true, sym, ◌∙◌, arith, length, needs, alls}
-use Rattle.folds.specs.Fold.{all-stop, all-turn}
+use Rattle.folds.specs.Fold.{all_stop, all_turn}
 use Rattle.columns.specs.Laws.{length-column}
 use Rattle.units.specs.Units.{checked}
 use Rattle.units.proofs.checked.Statement.{statement}
@@ -26,11 +26,11 @@ checked-spec =
     (λ c. search kit)  -- shared-slice-read-met-2
     (λ c κs. (omega arith, omega arith, rw (c.before.before.column.ensures, length-column) (omega arith)))  -- met-requires
     (λ c. let p = c.before.before.before.before in
-    all-stop _ _ _ p.before.loop-test.true (rw (← p.column.ensures) (sym c.before.met.ensures ∙ c.if1.false)))  -- returns
+    all_stop _ _ _ p.before.loop-test.true (rw (← p.column.ensures) (sym c.before.met.ensures ∙ c.if1.false)))  -- returns
     (λ c. search kit)  -- add-j
     (λ c. search kit)  -- loop-less
     (λ c. let p = c.before.before.before.before in (
       omega arith,
-      all-turn _ _ p.before.before.loop.invariant.1 (rw (← p.column.ensures) (sym c.before.met.ensures ∙ c.if1.true)),
+      all_turn _ _ p.before.before.loop.invariant.1 (rw (← p.column.ensures) (sym c.before.met.ensures ∙ c.if1.true)),
     ))  -- loop-again
     (λ c. search kit))  -- returns-2

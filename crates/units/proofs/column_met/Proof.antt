@@ -1,10 +1,10 @@
 use Rattle.folds.specs.Kit.{needs, pick}
-use Rattle.units.specs.Units.{columnMet, largestOf}
+use Rattle.units.specs.Units.{column_met, largest_of}
 use Rattle.units.proofs.column_met.Statement.{statement}
 use Rattle.units.proofs.column_met.Tie as tie
 
 pub column-met-spec : {M : Type 1} → statement M
-unfolding columnMet largestOf pick
+unfolding column_met largest_of pick
 column-met-spec =
     tie.close
     (tie.spec

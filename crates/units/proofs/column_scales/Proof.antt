@@ -1,13 +1,13 @@
 use Rattle.folds.specs.Kit.{needs}
 use lib.Ieee.{nan}
-use Rattle.columns.specs.Laws.{length-columnsAmax}
-use Rattle.folds.specs.Tab.{taken-edit}
-use Rattle.units.specs.Units.{scaleOr1, scalesOr1, columnScales}
+use Rattle.columns.specs.Laws.{length-columns_amax}
+use Rattle.folds.specs.Tab.{taken_edit}
+use Rattle.units.specs.Units.{scale_or1, scales_or1, column_scales}
 use Rattle.units.proofs.column_scales.Statement.{statement}
 use Rattle.units.proofs.column_scales.Tie as tie
 
 pub column-scales-spec : {M : Type 1} → statement M
-unfolding columnScales scalesOr1
+unfolding column_scales scales_or1
 column-scales-spec =
     tie.close
     (tie.spec
@@ -16,4 +16,4 @@ column-scales-spec =
     (λ c. search needs)  -- slice-aggregate-scales-or-1
     (λ c κs. search needs)  -- scales-or-1-requires
     (λ c. let a = c.before.before.before.before in
-    taken-edit nan _ scaleOr1 _ _ (length-columnsAmax _ _ _) a.columns-amax.ensures c.before.scales-or-1.ensures))  -- returns
+    taken_edit nan _ scale_or1 _ _ (length-columns_amax _ _ _) a.columns-amax.ensures c.before.scales-or-1.ensures))  -- returns

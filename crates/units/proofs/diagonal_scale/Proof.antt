@@ -1,10 +1,10 @@
 use Rattle.folds.specs.Kit.{needs}
-use Rattle.units.specs.Units.{diagonalScale}
+use Rattle.units.specs.Units.{diagonal_scale}
 use Rattle.units.proofs.diagonal_scale.Statement.{statement}
 use Rattle.units.proofs.diagonal_scale.Tie as tie
 
 pub diagonal-scale-spec : {M : Type 1} → statement M
-unfolding diagonalScale
+unfolding diagonal_scale
 diagonal-scale-spec =
     tie.close
     (tie.spec

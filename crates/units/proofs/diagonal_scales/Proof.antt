@@ -1,10 +1,10 @@
 use Rattle.folds.specs.Kit.{needs, taken-tab}
-use Rattle.units.specs.Units.{diagonalScales}
+use Rattle.units.specs.Units.{diagonal_scales}
 use Rattle.units.proofs.diagonal_scales.Statement.{statement}
 use Rattle.units.proofs.diagonal_scales.Tie as tie
 
 pub diagonal-scales-spec : {M : Type 1} → statement M
-unfolding diagonalScales
+unfolding diagonal_scales
 diagonal-scales-spec =
     tie.close
     (tie.spec

@@ -12,12 +12,12 @@ meets-spec =
     (λ c κs. search needs)  -- sum-sizes-requires
     (λ c κs. search needs)  -- abs-requires
     (λ c κs. search needs)  -- is-nan-requires
-    (λ c. rw (← c.before.before.before.before.sum-quotients.ensures, ← c.before.is-nan.ensures, c.if1.true))  -- returns
+    (λ c. rw (← c.before.before.before.before.sum-quotients.ensures, ← c.before.is_nan.ensures, c.if1.true))  -- returns
     (λ c κs. search needs)  -- abs-requires-2
     (λ c. let t = c.before.before.before in
     rw (
       ← t.before.before.before.sum-quotients.ensures,
-      ← t.is-nan.ensures,
+      ← t.is_nan.ensures,
       c.before.before.if1.false,
       ← t.before.before.sum-sizes.ensures,
       ← t.before.abs.ensures,
@@ -27,7 +27,7 @@ meets-spec =
     (λ c. let t = c.before.before.before in
     rw (
       ← t.before.before.before.sum-quotients.ensures,
-      ← t.is-nan.ensures,
+      ← t.is_nan.ensures,
       c.before.before.if1.false,
       ← t.before.before.sum-sizes.ensures,
       ← t.before.abs.ensures,

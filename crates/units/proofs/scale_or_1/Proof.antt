@@ -1,10 +1,10 @@
 use Rattle.folds.specs.Kit.{needs, pick}
-use Rattle.units.specs.Units.{scaleOr1}
+use Rattle.units.specs.Units.{scale_or1}
 use Rattle.units.proofs.scale_or_1.Statement.{statement}
 use Rattle.units.proofs.scale_or_1.Tie as tie
 
 pub scale-or-1-spec : {M : Type 1} → statement M
-unfolding scaleOr1 pick
+unfolding scale_or1 pick
 scale-or-1-spec =
     tie.close
     (tie.spec

@@ -1,6 +1,6 @@
 use Rattle.folds.specs.Kit.{◌≡◌, ◌-◌, ◌≤◌, fold, kit}
 use Rattle.arith.specs.Float.{fadd, fdiv, f0, at}
-use Rattle.units.specs.Units.{sumQuotients}
+use Rattle.units.specs.Units.{sum_quotients}
 use Rattle.units.proofs.sum_quotients.Statement.{statement}
 use Rattle.units.proofs.sum_quotients.Tie as tie
 
@@ -11,7 +11,7 @@ abbrev decreases-loop : tie.decreases-loop
 decreases-loop terms n by s₀ i₀ s i = n - i
 
 pub sum-quotients-spec : {M : Type 1} → statement M
-unfolding sumQuotients
+unfolding sum_quotients
 sum-quotients-spec =
     tie.close
     (tie.spec invariant-loop decreases-loop

@@ -1,7 +1,7 @@
-use Rattle.folds.specs.Kit.{◌≡◌, ◌-◌, ◌≤◌, arith, fold, fold-call, kit}
+use Rattle.folds.specs.Kit.{◌≡◌, ◌-◌, ◌≤◌, arith, fold, fold_call, kit}
 use Rattle.arith.specs.Float.{fadd, fdiv, f0, at}
 use Rattle.arith.specs.Scalar.{abs}
-use Rattle.units.specs.Units.{sumSizes}
+use Rattle.units.specs.Units.{sum_sizes}
 use Rattle.units.proofs.sum_sizes.Statement.{statement}
 use Rattle.units.proofs.sum_sizes.Tie as tie
 
@@ -12,7 +12,7 @@ abbrev decreases-loop : tie.decreases-loop
 decreases-loop terms n by s₀ i₀ s i = n - i
 
 pub sum-sizes-spec : {M : Type 1} → statement M
-unfolding sumSizes
+unfolding sum_sizes
 sum-sizes-spec =
     tie.close
     (tie.spec invariant-loop decreases-loop
@@ -22,5 +22,5 @@ sum-sizes-spec =
     (λ c κs. search kit)  -- abs-requires
     (λ c. search kit)  -- add-i
     (λ c. search kit)  -- loop-less
-    (λ c. (omega arith, fold-call _ _ _ c.before.before.before.loop.invariant.1 (rw c.abs.ensures)))  -- loop-again
+    (λ c. (omega arith, fold_call _ _ _ c.before.before.before.loop.invariant.1 (rw c.abs.ensures)))  -- loop-again
     (λ c. search kit))  -- returns

@@ -1,12 +1,12 @@
 use Rattle.folds.specs.Kit.{◌≡◌, ◌-◌, ◌≤◌, length, fold}
-use Rattle.columns.specs.Columns.{putColumn}
+use Rattle.columns.specs.Columns.{put_column}
 use Rattle.columns.specs.Laws.{matrix-kit}
-use Rattle.update.specs.Update.{closedEntry, closed}
+use Rattle.update.specs.Update.{closed_entry, closed}
 use Rattle.update.proofs.close.Statement.{statement}
 use Rattle.update.proofs.close.Tie as tie
 
 abbrev invariant-loop : tie.invariant-loop
-invariant-loop old n p l₀ j₀ l j = (j ≤ n) × (length l ≡ length l₀) × (l ≡ fold j (λ t x. putColumn n n t (λ i. closedEntry n p old i t) x) l₀)
+invariant-loop old n p l₀ j₀ l j = (j ≤ n) × (length l ≡ length l₀) × (l ≡ fold j (λ t x. put_column n n t (λ i. closed_entry n p old i t) x) l₀)
 
 abbrev decreases-loop : tie.decreases-loop
 decreases-loop old n p l₀ j₀ l j = n - j

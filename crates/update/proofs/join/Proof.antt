@@ -1,6 +1,6 @@
 use Rattle.folds.specs.Kit.{ap, ◌∙◌, kit}
 use Rattle.vector.specs.Laws.{over-copy}
-use Rattle.rank_one.specs.RankOne.{factorOf}
+use Rattle.rank_one.specs.RankOne.{factor_of}
 use Rattle.update.specs.Update.{join}
 use Rattle.update.proofs.join.Statement.{statement}
 use Rattle.update.proofs.join.Tie as tie
@@ -14,4 +14,4 @@ join-spec =
     (λ c. let r = c.before.before.before.before in let j = r.before.before.before.before.before in
     let g = j.before.before.before.before.before in let y = g.before.before.before.before in
     let s = y.before.before.before.before.before.before in
-    rw (← (y.copy.ensures ∙ over-copy _ _ _ s.requires.5), ← g.joining.ensures, ← j.joined.ensures) (ap factorOf r.rank-one.ensures)))  -- returns
+    rw (← (y.copy.ensures ∙ over-copy _ _ _ s.requires.5), ← g.joining.ensures, ← j.joined.ensures) (ap factor_of r.rank-one.ensures)))  -- returns

@@ -1,10 +1,10 @@
 use Rattle.folds.specs.Kit.{kit}
-use Rattle.update.specs.Update.{joinDiagonal}
+use Rattle.update.specs.Update.{join_diagonal}
 use Rattle.update.proofs.join_diagonal.Statement.{statement}
 use Rattle.update.proofs.join_diagonal.Tie as tie
 
 pub join-diagonal-spec : {M : Type 1} → statement M
-unfolding joinDiagonal
+unfolding join_diagonal
 join-diagonal-spec =
     tie.close
     (tie.spec (λ c κs. search kit) (λ c. search kit) (λ c. search kit) (λ c κs. search kit) (λ c. search kit) (λ c. search kit) (λ c. search kit)

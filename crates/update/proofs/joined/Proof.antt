@@ -1,13 +1,13 @@
 use Rattle.folds.specs.Kit.{◌≡◌, ◌+◌, ◌-◌, ◌≤◌, length, fold}
-use Rattle.columns.specs.Columns.{putColumn}
+use Rattle.columns.specs.Columns.{put_column}
 use Rattle.columns.specs.Laws.{matrix-kit}
-use Rattle.update.specs.Update.{joinedEntry, joined}
+use Rattle.update.specs.Update.{joined_entry, joined}
 use Rattle.update.proofs.joined.Statement.{statement}
 use Rattle.update.proofs.joined.Tie as tie
 
 abbrev invariant-loop : tie.invariant-loop
 invariant-loop old n p x l₀ j₀ j-end l j =
-    (j ≤ n + 1) × (length l ≡ length l₀) × (l ≡ fold j (λ t y. putColumn (n + 1) (n + 1) t (λ i. joinedEntry n p old x i t) y) l₀)
+    (j ≤ n + 1) × (length l ≡ length l₀) × (l ≡ fold j (λ t y. put_column (n + 1) (n + 1) t (λ i. joined_entry n p old x i t) y) l₀)
 
 abbrev decreases-loop : tie.decreases-loop
 decreases-loop old n p x l₀ j₀ j-end l j = n + 1 - j

@@ -1,11 +1,11 @@
 use Rattle.folds.specs.Kit.{arith, pick, kit}
 use borrow.Author.Tests.{eq-eqb, ne_eqb}
-use Rattle.update.specs.Update.{joinedEntry}
+use Rattle.update.specs.Update.{joined_entry}
 use Rattle.update.proofs.joined_entry.Statement.{statement}
 use Rattle.update.proofs.joined_entry.Tie as tie
 
 pub joined-entry-spec : {M : Type 1} → statement M
-unfolding joinedEntry pick
+unfolding joined_entry pick
 joined-entry-spec =
     tie.close
     (tie.spec (λ c. search kit) (λ c. search kit)

@@ -1,11 +1,11 @@
 use Rattle.folds.specs.Kit.{pick, kit}
 use borrow.Author.Tests.{lt-ltb, le-ltb}
-use Rattle.update.specs.Update.{removedEntry}
+use Rattle.update.specs.Update.{removed_entry}
 use Rattle.update.proofs.removed_entry.Statement.{statement}
 use Rattle.update.proofs.removed_entry.Tie as tie
 
 pub removed-entry-spec : {M : Type 1} → statement M
-unfolding removedEntry pick
+unfolding removed_entry pick
 removed-entry-spec =
     tie.close
     (tie.spec

@@ -1,7 +1,7 @@
 use Rattle.folds.specs.Kit.{◌≡◌, true, ◌-◌, ◌≤◌, length, set, fold, fold_end, kit}
 use Rattle.matrix.specs.Matrix.{index}
 use Rattle.sizes.specs.Sizes as Sizes
-use Rattle.variable_set.specs.Laws.{marks-made}
+use Rattle.variable_set.specs.Laws.{marks_made}
 use Rattle.variable_set.proofs.marks.Statement.{statement}
 use Rattle.variable_set.proofs.marks.Tie as tie
 
@@ -18,5 +18,5 @@ marks-spec =
     (λ c. c.before.before.before.requires c.before.before.loop.t c.before.loop-test.true)  -- array-write-s
     (λ c. search kit) (λ c. search kit)
     (λ c. search kit)  -- loop-again
-    (λ c. marks-made Sizes.originals c.before.before.args.list.now c.before.before.requires
+    (λ c. marks_made Sizes.originals c.before.before.args.list.now c.before.before.requires
     (fold_end _ _ _ _ c.before.loop.invariant.0 c.loop-test.false c.before.loop.invariant.1)))  -- returns

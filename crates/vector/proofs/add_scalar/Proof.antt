@@ -1,6 +1,6 @@
 use Rattle.folds.specs.Kit.{◌≡◌, ◌-◌, ◌≤◌, length, set, fold, over-kit}
 use Rattle.arith.specs.Float.{fadd, at}
-use Rattle.vector.specs.Vector.{addScalar}
+use Rattle.vector.specs.Vector.{add_scalar}
 use Rattle.vector.proofs.add_scalar.Statement.{statement}
 use Rattle.vector.proofs.add_scalar.Tie as tie
 
@@ -11,7 +11,7 @@ abbrev decreases-loop : tie.decreases-loop
 decreases-loop a n v y₀ k₀ y k = n - k
 
 pub add-scalar-spec : {M : Type 1} → statement M
-unfolding addScalar
+unfolding add_scalar
 add-scalar-spec =
     tie.close
     (tie.spec invariant-loop decreases-loop (λ c. search over-kit) (λ c. search over-kit) (λ c. search over-kit) (λ c. search over-kit) (λ c. search over-kit)

@@ -1,4 +1,4 @@
-use Rattle.folds.specs.Kit.{◌≡◌, ◌-◌, ◌≤◌, arith, length, set, fold, over-edit, kit}
+use Rattle.folds.specs.Kit.{◌≡◌, ◌-◌, ◌≤◌, arith, length, set, fold, over_edit, kit}
 use lib.Ieee.{nan}
 use Rattle.arith.specs.Float.{fmul, at}
 use Rattle.vector.specs.Vector.{scaled}
@@ -19,5 +19,5 @@ scale-spec =
     (λ c. search kit)
     (λ c. search kit)  -- loop-again
     (λ c. search kit)
-    (λ c. over-edit nan c.before.loop.k _ (λ i v. fmul v c.before.before.args.by) _ (omega arith) (omega arith) (omega arith)
+    (λ c. over_edit nan c.before.loop.k _ (λ i v. fmul v c.before.before.args.by) _ (omega arith) (omega arith) (omega arith)
     c.before.loop.invariant.2))  -- returns

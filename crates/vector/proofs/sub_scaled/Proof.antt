@@ -1,7 +1,7 @@
-use Rattle.folds.specs.Kit.{◌≡◌, ◌-◌, ◌≤◌, arith, length, set, fold, over-edit, kit}
+use Rattle.folds.specs.Kit.{◌≡◌, ◌-◌, ◌≤◌, arith, length, set, fold, over_edit, kit}
 use lib.Ieee.{nan}
 use Rattle.arith.specs.Float.{fsub, fmul, at}
-use Rattle.vector.specs.Vector.{subScaled}
+use Rattle.vector.specs.Vector.{sub_scaled}
 use Rattle.vector.proofs.sub_scaled.Statement.{statement}
 use Rattle.vector.proofs.sub_scaled.Tie as tie
 
@@ -12,12 +12,12 @@ abbrev decreases-loop : tie.decreases-loop
 decreases-loop y₀ n x by k₀ y k = n - k
 
 pub sub-scaled-spec : {M : Type 1} → statement M
-unfolding subScaled
+unfolding sub_scaled
 sub-scaled-spec =
     tie.close
     (tie.spec invariant-loop decreases-loop (λ c. search kit) (λ c. search kit) (λ c. search kit) (λ c. search kit) (λ c. search kit) (λ c. search kit)
     (λ c. search kit) (λ c. search kit) (λ c. search kit)
     (λ c. search kit)  -- loop-again
     (λ c. search kit)
-    (λ c. over-edit nan c.before.loop.k _ (λ i v. fsub v (fmul (at c.before.before.args.x.now i) c.before.before.args.by)) _
+    (λ c. over_edit nan c.before.loop.k _ (λ i v. fsub v (fmul (at c.before.before.args.x.now i) c.before.before.args.by)) _
     (omega arith) (omega arith) (omega arith) c.before.loop.invariant.2))  -- returns

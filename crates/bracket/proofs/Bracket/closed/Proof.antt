@@ -1,4 +1,4 @@
-use Rattle.folds.specs.Kit.{refl, pick_true, pick-false}
+use Rattle.folds.specs.Kit.{refl, pick_true, pick_false}
 use Rattle.bracket.specs.Bracket.{closed}
 use Rattle.bracket.proofs.Bracket.closed.Statement.{statement}
 use Rattle.bracket.proofs.Bracket.closed.Tie as tie
@@ -9,4 +9,4 @@ closed-spec =
     tie.close
     (tie.spec
     (λ c. pick_true _ _ c.if1.true refl)  -- returns
-    (λ c. pick-false _ _ c.before.if1.false refl))  -- returns-2
+    (λ c. pick_false _ _ c.before.if1.false refl))  -- returns-2

@@ -1,4 +1,4 @@
-use Rattle.folds.specs.Kit.{sym, ◌∙◌, needs, pick_true, pick-false}
+use Rattle.folds.specs.Kit.{sym, ◌∙◌, needs, pick_true, pick_false}
 use Rattle.bracket.specs.Bracket.{cut}
 use Rattle.bracket.proofs.Bracket.cut.Statement.{statement}
 use Rattle.bracket.proofs.Bracket.cut.Tie as tie
@@ -14,11 +14,11 @@ unfolding cut
 returns-2 c =
     let s = c.before.before.before in
     let i = rw s.secant.ensures at (sym c.before.before.inside.ensures ∙ c.before.if2.false) in
-    pick_true _ _ s.before.if1.true (pick-false _ _ i c.halve.ensures)
+    pick_true _ _ s.before.if1.true (pick_false _ _ i c.halve.ensures)
 
 returns-3 : tie.Need-returns-3
 unfolding cut
-returns-3 c = pick-false _ _ c.before.if1.false c.halve2.ensures
+returns-3 c = pick_false _ _ c.before.if1.false c.halve2.ensures
 
 pub cut_spec : {M : Type 1} → statement M
 cut_spec =

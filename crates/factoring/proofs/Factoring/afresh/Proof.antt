@@ -1,12 +1,12 @@
 use Rattle.folds.specs.Kit.{pick, kit}
 use native.Mathlib.Nat.{le_refl}
 use Rattle.variable_set.specs.Laws.{listed_below}
-use Rattle.factoring.specs.Kept.{afresh, kept, keptOf}
+use Rattle.factoring.specs.Kept.{afresh, kept, kept_of}
 use Rattle.factoring.proofs.Factoring.afresh.Statement.{statement}
 use Rattle.factoring.proofs.Factoring.afresh.Tie as tie
 
 pub afresh-spec : {M : Type 1} → statement M
-unfolding afresh pick kept keptOf
+unfolding afresh pick kept kept_of
 afresh-spec =
     tie.close
     (tie.spec

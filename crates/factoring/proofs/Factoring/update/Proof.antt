@@ -1,14 +1,14 @@
 use Rattle.folds.specs.Kit.{◌≡◌, ◌≤◌, arith, length, kit}
 use Rattle.folds.specs.Cell.{area}
 use native.Mathlib.Nat.{le_refl}
-use Rattle.variable_set.specs.Laws.{listed-few, listed_below, rising-wider}
-use Rattle.factoring.specs.Kept.{Factor, factor, update, settled, keptOf}
+use Rattle.variable_set.specs.Laws.{listed_few, listed_below, rising_wider}
+use Rattle.factoring.specs.Kept.{Factor, factor, update, settled, kept_of}
 use Rattle.factoring.specs.Laws.{good-rises, update-good}
 use Rattle.factoring.proofs.Factoring.update.Statement.{statement}
 use Rattle.factoring.proofs.Factoring.update.Tie as tie
 
 listed : (c : tie.Start) → length c.args.indices.now ≤ c.args.originals
-listed c = listed-few c.args.originals c.args.indices.now c.requires.rises
+listed c = listed_few c.args.originals c.args.indices.now c.requires.rises
 
 last-updated-requires : tie.Need-last-updated-requires
 last-updated-requires c κs =
@@ -17,8 +17,8 @@ last-updated-requires c κs =
       p.block,
       record {
         few = p.block.few;
-        l-holds = p.l-holds;
-        room-holds = omega (arith, area (le_refl s.args.originals) p.block.within, p.room-holds);
+        l_holds = p.l_holds;
+        room_holds = omega (arith, area (le_refl s.args.originals) p.block.within, p.room_holds);
       },
       good-rises _ _ p.good,
       p.rises,
@@ -28,23 +28,23 @@ afresh-requires : tie.Need-afresh-requires
 afresh-requires c κs =
     let s = c.before.before.before.before.before.before.before.before.before.before.before.before.before.before.before in
     let p = s.requires in (
-      p.block.q-holds,
-      rising-wider _ _ p.rises _ p.block.few,
+      p.block.q_holds,
+      rising_wider _ _ p.rises _ p.block.few,
       listed_below _ _ p.rises _ p.block.within,
-      omega (arith, area (listed s) (listed s), p.l-holds),
-      omega (arith, area (listed s) (le_refl s.args.n), p.room-holds),
+      omega (arith, area (listed s) (listed s), p.l_holds),
+      omega (arith, area (listed s) (le_refl s.args.n), p.room_holds),
     )
 
 abbrev updated : tie.Start → Factor
-updated s = update s.args.q.now s.args.n s.args.indices.now (keptOf s.args.self) s.args.l.now
+updated s = update s.args.q.now s.args.n s.args.indices.now (kept_of s.args.self) s.args.l.now
 
 returns : tie.Need-returns
-unfolding update settled keptOf
+unfolding update settled kept_of
 returns c =
     let u = c.before.before.before.before.before.before in
     let s = c.before.before.before.before.before.before.before.before.before.before.before.before.before.before in
     let h = c.with-factor.ensures in
-    let e : factor (keptOf c.with-factor.result) u.last-updated.new.1.1.1.1.1.1.0 ≡ updated s = rw (
+    let e : factor (kept_of c.with-factor.result) u.last-updated.new.1.1.1.1.1.1.0 ≡ updated s = rw (
       ← u.last-updated.ensures,
       c.before.if1.true,
       h,
@@ -52,13 +52,13 @@ returns c =
     (e, update-good _ s.requires.block.few _ _ _ s.requires.rises _ _ s.requires.good _ e)
 
 returns-2 : tie.Need-returns-2
-unfolding update settled keptOf
+unfolding update settled kept_of
 returns-2 c =
     let a = c.before.before.before.before in
     let u = c.before.before.before.before.before.before.before.before.before.before.before.before in
     let s = u.before.before.before.before.before.before.before.before in
     let h = a.afresh.ensures in
-    let e : factor (keptOf a.afresh.result) a.afresh.new.1.1.1.1.0 ≡ updated s =
+    let e : factor (kept_of a.afresh.result) a.afresh.new.1.1.1.1.0 ≡ updated s =
     rw (← u.last-updated.ensures, c.before.before.before.before.before.before.before.if1.false) h in
     (e, update-good _ s.requires.block.few _ _ _ s.requires.rises _ _ s.requires.good _ e)
 
@@ -68,7 +68,7 @@ update-spec =
     (tie.spec
     last-updated-requires  -- last-updated-requires
     (λ c κs. let s = c.before.before.before.before.before.before.before.before.before.before.before.before.before in
-    rising-wider _ _ s.requires.rises _ s.requires.block.few)  -- with-factor-requires
+    rising_wider _ _ s.requires.rises _ s.requires.block.few)  -- with-factor-requires
     (λ c. search kit)  -- same-length
     (λ c. search kit)  -- same-length-2
     returns  -- returns

@@ -1,11 +1,11 @@
 use native.Mathlib.Nat.{le_refl}
 use Rattle.variable_set.specs.Laws.{listed_below, marks-rising}
-use Rattle.factoring.specs.Kept.{withSingular, optionOf, keptOf}
+use Rattle.factoring.specs.Kept.{with_singular, option_of, kept_of}
 use Rattle.factoring.proofs.Factoring.with_singular.Statement.{statement}
 use Rattle.factoring.proofs.Factoring.with_singular.Tie as tie
 
 pub with-singular-spec : {M : Type 1} → statement M
-unfolding withSingular optionOf keptOf
+unfolding with_singular option_of kept_of
 with-singular-spec =
     tie.close
     (tie.spec
