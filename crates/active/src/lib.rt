@@ -1,5 +1,7 @@
 // qp.rs, `solve_piecewise_in_units`: the passes of the primal active-set method on a problem in `Units`, counted. Q is n by n, E is n by m; the
 // variables from `originals` on are slacks, each with one of the last columns of E.
+#![tactic(auto)]
+
 ghost use Rattle.std.specs.Prelude.{◌≡◌, ◌≤◌, ◌*◌, length};
 ghost use Rattle.segments.specs.Segments.{AllCut};
 ghost use Rattle.iterate.specs.Problem.{problem, Shaped, Room};

@@ -1,4 +1,6 @@
 // qp.rs, the end of a pass of `solve_piecewise_in_units` that no variable blocks: the whole step is made, and a held variable is released.
+#![tactic(auto)]
+
 ghost use Rattle.std.specs.Prelude.{◌≡◌, ◌≤◌, ◌<◌, length, take};
 ghost use Rattle.sizes.specs.Sizes as Sizes;
 ghost use Rattle.vector.specs.Vector.{Below};

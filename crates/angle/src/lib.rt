@@ -1,9 +1,11 @@
 // eigen.rs, `rotate`: the cosine and sine of the Jacobi rotation that zeroes the entry p, q of a symmetric matrix.
+#![tactic(auto)]
+
 ghost use Rattle.std.specs.Prelude.{◌≡◌, ◌≤◌, ◌<◌, ◌*◌, length};
 ghost use Rattle.angle.specs.Angle as Angle;
 
 // The cosine and sine of a rotation.
-#[derive(Drop)]
+#[derive(Clone, Copy)]
 pub struct Turn {
     pub c: f64,
     pub s: f64,

@@ -1,4 +1,6 @@
 // The answer file's writer. The file is specs/File.antt; that what is written is read back, specs/Back.antt.
+#![tactic(auto)]
+
 ghost use Rattle.std.specs.Prelude.{◌≡◌, ◌++◌, ◌+◌, ◌*◌, ◌≤◌, ◌<◌, leb, length};
 ghost use Rattle.block.specs.Ranges.{max_words, max_anchors, max_spans};
 ghost use Rattle.answer.specs.File.{answer_of, bytes, code, in4, in8, each, field, file_size, Written};

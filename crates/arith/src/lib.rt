@@ -1,4 +1,6 @@
 // Scalars: what Rust has as methods of f64.
+#![tactic(auto)]
+
 ghost use Rattle.std.specs.Prelude.{◌≡◌, is_nan};
 ghost use Rattle.std.specs.Float.{nan as nan_value};
 ghost use Rattle.arith.specs.Float.{fromℕ, infinity as infinity_value};

@@ -1,4 +1,6 @@
 // The terms of a block's cost that the engine gets: Q and c, as floats. The definitions are specs/Cost.antt; Q is stored column after column.
+#![tactic(auto)]
+
 ghost use Rattle.std.specs.Prelude.{◌≡◌, ◌*◌, ◌<◌, ◌≤◌, length};
 ghost use Rattle.block.specs.Ranges.{Ranged, RangedList, RangedTempo};
 ghost use Rattle.format.specs.Structs.{Filled, Sound, list_of, tempo_of, block_of};

@@ -1,4 +1,6 @@
 // The whole numbers of a block, as floats: each exactly.
+#![tactic(auto)]
+
 ghost use Rattle.std.specs.Prelude.{◌≡◌};
 ghost use Rattle.ints.specs.Bound.{◌≼◌};
 ghost use Rattle.nearest.specs.Value.{fromℤ};

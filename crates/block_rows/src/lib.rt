@@ -1,5 +1,7 @@
 // The rows of a block that the engine gets, its anchors and spans with their values and ends, as floats. The definitions are specs/Rows.antt;
 // matrices are stored column after column.
+#![tactic(auto)]
+
 ghost use Rattle.std.specs.Prelude.{◌≡◌, ◌+◌, ◌*◌, ◌≤◌, length};
 ghost use Rattle.folds.specs.Part.{with_part};
 ghost use Rattle.block.specs.Ranges.{Ranged, RangedList};
@@ -84,7 +86,7 @@ pub fn span_columns(b: Block, a: &mut [f64])
 }
 
 // An end of a span.
-#[derive(Drop)]
+#[derive(Clone, Copy)]
 enum SpanEnd {
     Lower,
     Upper,

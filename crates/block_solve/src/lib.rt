@@ -1,5 +1,7 @@
 // A block, handed to the engine. The definition is specs/Solve.antt; what the engine gets of a block, crates `block_cost`,
 // `word_numbers` and `block_rows`.
+#![tactic(auto)]
+
 ghost use Rattle.std.specs.Prelude.{◌≡◌};
 ghost use Rattle.block.specs.Ranges.{Ranged};
 ghost use Rattle.format.specs.Structs.{Sound, block_of};

@@ -1,4 +1,6 @@
 // qp.rs, the blocked step of a pass of `solve_piecewise_in_units`: to where a free variable reaches an end of its segment, at which it is held.
+#![tactic(auto)]
+
 ghost use Rattle.std.specs.Prelude.{◌≡◌, ◌<◌, length};
 ghost use Rattle.free_list.specs.FreeList.{Listed};
 ghost use Rattle.step_length.specs.StepLength.{Entries};

@@ -1,4 +1,6 @@
 // qp.rs, `block`: a variable that reached an end of its segment is held there, and which variables are refused.
+#![tactic(auto)]
+
 ghost use Rattle.std.specs.Prelude.{◌≡◌, ◌<◌};
 ghost use Rattle.sizes.specs.Sizes as Sizes;
 ghost use Rattle.segments.specs.Segments.{Cut, IsFree, Placed, state_at};
@@ -9,14 +11,14 @@ use segments::{Segments, Spot, State};
 use step_length::Side;
 
 // The variable that the pass before released, if it did.
-#[derive(Drop)]
+#[derive(Clone, Copy)]
 pub enum Released {
     One(usize),
     NoOne,
 }
 
 // What a block changes: the point, each variable's state, and which variables are refused.
-#[derive(Drop)]
+#[derive(Clone, Copy)]
 pub struct Board {
     pub x: [f64; sizes::VARIABLES],
     pub state: [Spot; sizes::VARIABLES],

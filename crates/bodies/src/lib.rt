@@ -1,4 +1,6 @@
 // The body of each field: its verdict, and what it holds. The definitions are format's specs/Read.antt.
+#![tactic(auto)]
+
 ghost use Rattle.std.specs.Prelude.{◌≡◌, ◌≤◌};
 ghost use Rattle.block.specs.Ranges.{max_pairs};
 ghost use Rattle.format.specs.Read as Read;

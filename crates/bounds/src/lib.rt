@@ -1,4 +1,6 @@
 // How far a plan misses a block's anchors and spans, and the test of a written plan against its bounds. The definitions are `block`'s.
+#![tactic(auto)]
+
 ghost use Rattle.std.specs.Prelude.{◌≡◌, length};
 ghost use Rattle.ints.specs.Bound.{◌≼◌};
 ghost use Rattle.block.specs.Keeps.{anchor_miss, outside, span_miss, window_kept, coef_sizes, miss_bounded};

@@ -1,11 +1,13 @@
 // qp.rs, `search_multiplier`'s bracket: a value whose steps take it and hand it back.
+#![tactic(auto)]
+
 ghost use Rattle.std.specs.Prelude.{◌≡◌};
 ghost use Rattle.sizes.specs.Sizes as Sizes;
 ghost use Rattle.bracket.specs.Bracket as Definition;
 
 // The multiplier lies from `low` to `high`, with the values there; `middle` is where the next solve between them stands. In the doubling `high` is
 // still to be solved at, from `warm`; then the best solution, with its multipliers and passes, is the one at `high`.
-#[derive(Drop)]
+#[derive(Clone, Copy)]
 pub struct Bracket {
     pub low: f64,
     pub low_value: f64,

@@ -1,6 +1,8 @@
 // The public calls: every one that C or Rust may make, under its C name. include/places.h says what each means. A slice is a pointer and a
 // count. A result of 0 is success, 100 an answer without values, any other a number of document 01's refusal table; whatever is not 0 writes
 // nothing.
+#![tactic(auto)]
+
 ghost use Rattle.std.specs.Prelude.{◌≡◌};
 ghost use Rattle.std.specs.Float.{binary64};
 ghost use Rattle.kkt.specs.Kkt as Kkt;

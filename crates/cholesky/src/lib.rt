@@ -1,4 +1,6 @@
 // The Cholesky factor of a matrix, in document 01's order of sums, and the test of its pivots. An n by n matrix is read in its lower triangle only.
+#![tactic(auto)]
+
 ghost use Rattle.std.specs.Prelude.{◌≡◌, ◌≤◌, ◌<◌, ◌*◌, length};
 ghost use Rattle.folds.specs.Fold.{out};
 ghost use Rattle.cholesky.specs.Cholesky as Cholesky;

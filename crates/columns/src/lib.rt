@@ -1,4 +1,6 @@
 // A matrix is a slice of f64, column after column; n rows, m columns. Its entries, its columns, and the largest of each column.
+#![tactic(auto)]
+
 ghost use Rattle.std.specs.Prelude.{◌≡◌, ◌≤◌, ◌<◌, ◌*◌, length};
 ghost use Rattle.folds.specs.Fold.{over};
 ghost use Rattle.columns.specs.Columns as Columns;

@@ -1,5 +1,7 @@
 // qp.rs: `Constraints`, of E with n rows and m columns, up to 32 and 24; p is min(n, m). Of the basis Y, n by p, the first `rank` columns
 // count, of Z the first n - rank, and of T, p by m, the first `rank` rows.
+#![tactic(auto)]
+
 ghost use Rattle.std.specs.Prelude.{◌≡◌, false, ◌≤◌, ◌<◌, ◌+◌, ◌-◌, ◌*◌, min, length, take};
 ghost use Rattle.folds.specs.Fold.{fold, tab, over};
 ghost use Rattle.sizes.specs.Sizes as Sizes;

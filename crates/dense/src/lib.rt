@@ -1,4 +1,6 @@
 // Vectors by value, for the engine: up to 48 elements, of which the first n count.
+#![tactic(auto)]
+
 ghost use Rattle.std.specs.Prelude.{◌≡◌, ◌≤◌, ◌*◌, length, take};
 ghost use Rattle.sizes.specs.Sizes.{variables};
 ghost use Rattle.vector.specs.Vector as Vector;

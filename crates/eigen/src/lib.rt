@@ -1,4 +1,6 @@
 // eigen.rs: the symmetric eigendecomposition by the cyclic Jacobi method.
+#![tactic(auto)]
+
 ghost use Rattle.std.specs.Prelude.{◌≡◌, ◌≤◌, ◌<◌, ◌*◌, length};
 ghost use Rattle.folds.specs.Fold.{out, over};
 ghost use Rattle.folds.specs.Part.{two};

@@ -1,5 +1,7 @@
 // A plan's sums, moves and cost in whole numbers: signed 64 bits hold each number on the way. The definitions are `block`'s.
 // A plan is the caller's slice of i32s, as the check is handed it and as the answer file has it: one time for each word.
+#![tactic(auto)]
+
 ghost use Rattle.std.specs.Prelude.{◌≡◌, ◌<◌, length};
 ghost use Rattle.ints.specs.Sum.{delta};
 ghost use Rattle.ints.specs.Bound.{◌≼◌};

@@ -1,5 +1,7 @@
 // qp.rs, `updated`: a Cholesky factor of Q's block on the held variables, changed to the block on the listed ones, in place.
 // Q is n by n; only its first `originals` variables are held or listed, in rising order. While the held set changes it is a mark for each of them.
+#![tactic(auto)]
+
 ghost use Rattle.std.specs.Prelude.{◌≡◌, false, ◌≤◌, ◌<◌, length};
 ghost use Rattle.folds.specs.Fold.{out, over};
 ghost use Rattle.folds.specs.Marks as Marks;

@@ -1,5 +1,7 @@
 // qp.rs, `Factoring`, by value: the factor of Q's block on the free variables, kept from one iteration to the next.
 // Q is n by n; only its first `originals` variables are listed, in rising order. The factor itself is lent, as l, and stands over its start.
+#![tactic(auto)]
+
 ghost use Rattle.std.specs.Prelude.{◌≡◌, true, ◌≤◌, ◌*◌, length};
 ghost use Rattle.folds.specs.Fold.{out};
 ghost use Rattle.sizes.specs.Sizes as Sizes;
@@ -11,7 +13,7 @@ ghost use Rattle.factoring.specs.Kept.{factor, kept_of};
 ghost use Rattle.factoring.specs.Kept as Kept;
 
 // A set of variables is a mark for each.
-#[derive(Drop)]
+#[derive(Clone, Copy)]
 pub struct Factoring {
     // Whether there is a factor, and the variables of its block.
     pub factored: bool,

@@ -1,4 +1,6 @@
 // A field's verdict: its header's, then its body's. The definitions are format's specs/Read.antt.
+#![tactic(auto)]
+
 ghost use Rattle.std.specs.Prelude.{◌≡◌, ◌≤◌};
 ghost use Rattle.block.specs.Ranges.{max_pairs};
 ghost use Rattle.format.specs.Read as Read;

@@ -1,4 +1,6 @@
 // How the reader of the block file holds a block, what it answers, and how much of a file tells the answer. The file's definition is specs/Read.antt.
+#![tactic(auto)]
+
 ghost use Rattle.std.specs.Prelude.{◌≡◌, List, ℕ, ◌≤◌, length, take};
 ghost use Rattle.format.specs.Read.{read};
 
@@ -36,7 +38,7 @@ pub const MAX_COEF: u64 = 8;
 pub const MAX_SUM: u64 = 8388608;
 
 // Accepted, or one of document 01's refusals 1 to 7, in their order.
-#[derive(Drop)]
+#[derive(Clone, Copy)]
 pub enum Verdict {
     Accepted,
     BadLength,
@@ -48,7 +50,7 @@ pub enum Verdict {
     BadList,
 }
 
-#[derive(Drop)]
+#[derive(Clone, Copy)]
 pub struct Word {
     pub lower: u64,
     pub upper: u64,
@@ -57,33 +59,33 @@ pub struct Word {
     pub slope: u64,
 }
 
-#[derive(Drop)]
+#[derive(Clone, Copy)]
 pub struct Pair {
     pub word: u64,
     pub coef: i64,
 }
 
 // The list is the first `count` pairs.
-#[derive(Drop)]
+#[derive(Clone, Copy)]
 pub struct Pairs {
     pub count: usize,
     pub pair: [Pair; MAX_PAIRS],
 }
 
-#[derive(Drop)]
+#[derive(Clone, Copy)]
 pub struct Tempo {
     pub weight: u64,
     pub target: i64,
     pub list: Pairs,
 }
 
-#[derive(Drop)]
+#[derive(Clone, Copy)]
 pub struct Anchor {
     pub value: i64,
     pub list: Pairs,
 }
 
-#[derive(Drop)]
+#[derive(Clone, Copy)]
 pub struct Span {
     pub lower: i64,
     pub upper: i64,
@@ -91,7 +93,7 @@ pub struct Span {
 }
 
 // The block's words are the first `words` of `word`, and so on.
-#[derive(Drop)]
+#[derive(Clone, Copy)]
 pub struct Block {
     pub words: usize,
     pub word: [Word; MAX_WORDS],
@@ -105,7 +107,7 @@ pub struct Block {
 }
 
 // How many fields of each tag with a limit there are so far.
-#[derive(Drop)]
+#[derive(Clone, Copy)]
 pub struct Counts {
     pub words: usize,
     pub tempos: usize,

@@ -1,4 +1,6 @@
 // qp.rs: the free variables of a pass: their list, its split into variables and slacks, and the ends and slopes of their segments.
+#![tactic(auto)]
+
 ghost use Rattle.std.specs.Prelude.{◌≡◌, ◌≤◌, length, take};
 ghost use Rattle.folds.specs.Fold.{over};
 ghost use Rattle.folds.specs.Position.{partition_point};

@@ -1,5 +1,7 @@
 // qp.rs, a pass of `solve_piecewise_in_units`: the problem in the free variables. Q is n by n, E is n by m; the variables from `originals` on are
 // slacks, each with one of the last columns of E.
+#![tactic(auto)]
+
 ghost use Rattle.std.specs.Prelude.{◌≡◌, ◌≤◌, ◌*◌, length, take};
 ghost use Rattle.vector.specs.Vector.{Below};
 ghost use Rattle.matrix.specs.Matrix.{select_rows};
@@ -11,7 +13,7 @@ use iterate::Counts;
 
 // The problem in the free variables, but for its Q and E: the `columns` columns kept, the linear term, the gradient, what each constraint lacks, and,
 // of the kept ones, the right side, with its noise. Of each array the leading part counts.
-#[derive(Drop)]
+#[derive(Clone, Copy)]
 pub struct Free {
     pub kept: [usize; sizes::COLUMNS],
     pub columns: usize,

@@ -1,5 +1,7 @@
 // qp.rs, a pass of `solve_piecewise_in_units`: the step on the free variables, from the factor kept across iterations where Q is positive definite
 // on them, and otherwise, or if that misses, from the eigendecomposition. K is n by n, E is n by m.
+#![tactic(auto)]
+
 ghost use Rattle.std.specs.Prelude.{◌≡◌, Bool, List, ℕ, ◌≤◌, ◌*◌, length, take};
 ghost use Rattle.scaled.specs.System.{Sized, system};
 ghost use Rattle.factoring.specs.Kept.{factor, option_of, kept_of, Good, Updatable};

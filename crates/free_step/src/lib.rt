@@ -1,5 +1,7 @@
 // qp.rs, what follows the solve of a pass of `solve_piecewise_in_units`: the step to the minimum on the free variables, or, where they have none,
 // along a direction of zero curvature. The free variables `indices` are `solved`, those below `originals`, and, after them, `slacks`.
+#![tactic(auto)]
+
 ghost use Rattle.std.specs.Prelude.{◌≡◌, ◌≤◌, ◌*◌, length, take};
 ghost use Rattle.solution.specs.Solution.{answer};
 ghost use Rattle.segments.specs.Segments.{AllCut};

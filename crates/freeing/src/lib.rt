@@ -1,5 +1,7 @@
 // qp.rs, a pass of `solve_piecewise_in_units` where no original is free: every variable is freed at once, unless that was done before at the same
 // point.
+#![tactic(auto)]
+
 ghost use Rattle.std.specs.Prelude.{◌≡◌, ◌≤◌, length};
 ghost use Rattle.sizes.specs.Sizes as Sizes;
 ghost use Rattle.segments.specs.Segments.{AllCut, AllPlaced};

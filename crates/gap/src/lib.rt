@@ -1,4 +1,6 @@
 // The gap of a plan and prices, in signed 64 bits. The definitions are `block`'s.
+#![tactic(auto)]
+
 ghost use Rattle.std.specs.Prelude.{◌≡◌, ◌≤◌, length, ◌*ℤ◌};
 ghost use Rattle.ints.specs.Bound.{◌≼◌};
 ghost use Rattle.ints.specs.Diff.{minℤ, maxℤ};

@@ -1,4 +1,6 @@
 // Householder's reflections, as document 01, "The reference build", has them: `qr`, and `q_tr_mul` by what it leaves.
+#![tactic(auto)]
+
 ghost use Rattle.std.specs.Prelude.{◌≡◌, ◌≤◌, ◌<◌, ◌*◌, ◌+◌, ◌-◌, length};
 ghost use Rattle.folds.specs.Fold.{out};
 ghost use Rattle.folds.specs.Part.{two};

@@ -1,5 +1,7 @@
 // qp.rs, `solve_piecewise_in_units`: the passes from the start, and the work memory that they are lent. Q is n by n, E is n by m; the variables from
 // `originals` on are slacks, each with one of the last columns of E.
+#![tactic(auto)]
+
 ghost use Rattle.std.specs.Prelude.{◌≡◌, ◌≤◌, ◌+◌, ◌*◌, length};
 ghost use Rattle.sizes.specs.Sizes as Sizes;
 ghost use Rattle.arith.specs.Float.{f0};

@@ -1,4 +1,6 @@
 // qp.rs, `solve_piecewise_in_units`: what a pass changes, and what it ends in.
+#![tactic(auto)]
+
 ghost use Rattle.std.specs.Prelude.{◌≡◌, replicate};
 ghost use Rattle.sizes.specs.Sizes as Sizes;
 ghost use Rattle.arith.specs.Float.{f0};
@@ -7,7 +9,7 @@ ghost use Rattle.iterate.specs.Iterate as Definition;
 use blocking::{Board, Released};
 
 // The variables, of which those from `originals` on are slacks, and the columns of E.
-#[derive(Drop)]
+#[derive(Clone, Copy)]
 pub struct Counts {
     pub originals: usize,
     pub n: usize,
@@ -15,7 +17,7 @@ pub struct Counts {
 }
 
 // The largest absolute values: of Q, and of c and the slopes.
-#[derive(Drop)]
+#[derive(Clone, Copy)]
 pub struct Magnitudes {
     pub q: f64,
     pub linear: f64,
@@ -43,7 +45,7 @@ pub fn with_board(iterate: Iterate, board: Board, released: Released) -> Iterate
     }
 }
 
-#[derive(Drop)]
+#[derive(Clone, Copy)]
 pub enum Ending {
     More,
     Optimal,

@@ -1,4 +1,6 @@
 // qp.rs, `solve_kkt`, the public call. K is n by n, E is n by m, with up to 32 variables and 8 columns.
+#![tactic(auto)]
+
 ghost use Rattle.std.specs.Prelude.{◌≡◌, ◌≤◌, ◌*◌, length};
 ghost use Rattle.sizes.specs.Sizes as Sizes;
 ghost use Rattle.scaled.specs.System.{Sized, system};

@@ -1,4 +1,6 @@
 // qp.rs, `solve_kkt`: a solution in `Units`, back in the units of the caller.
+#![tactic(auto)]
+
 ghost use Rattle.std.specs.Prelude.{◌≡◌, ◌≤◌, ◌*◌, length, take};
 ghost use Rattle.vector.specs.Vector as Vector;
 ghost use Rattle.sizes.specs.Sizes as Sizes;

@@ -1,5 +1,7 @@
 // qp.rs, `updated`, its first loop: the variables of a Cholesky factor that are no longer listed leave it, in place.
 // Only the first `originals` variables are held or listed. While the held set changes it is a mark for each of them.
+#![tactic(auto)]
+
 ghost use Rattle.std.specs.Prelude.{◌≡◌, true, ◌<◌};
 ghost use Rattle.folds.specs.Marks as Marks;
 ghost use Rattle.leaving.specs.Held as Held;

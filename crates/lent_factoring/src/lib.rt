@@ -1,4 +1,6 @@
 // The kept factor, lent by mutable reference and changed there (document 01); each call is proved equal to the by-value one of `factoring`.
+#![tactic(auto)]
+
 ghost use Rattle.std.specs.Prelude.{◌≡◌};
 ghost use Rattle.factoring.specs.Kept.{factor, kept_of};
 ghost use Rattle.factoring.specs.Kept as Kept;

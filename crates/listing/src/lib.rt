@@ -1,4 +1,6 @@
 // What the program `places` prints, as bytes. The definition is specs/Listing.antt.
+#![tactic(auto)]
+
 ghost use Rattle.std.specs.Prelude.{length, ◌≤◌};
 ghost use Rattle.format.specs.Structs.{block_of};
 ghost use Rattle.exact.specs.Planned.{Planned};

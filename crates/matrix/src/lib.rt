@@ -1,4 +1,6 @@
 // Matrices: slices of f64, column after column; n rows, m columns.
+#![tactic(auto)]
+
 ghost use Rattle.std.specs.Prelude.{◌≡◌, ◌≤◌, ◌<◌, ◌*◌, length};
 ghost use Rattle.folds.specs.Fold.{over};
 ghost use Rattle.arith.specs.Float.{fdiv, at};

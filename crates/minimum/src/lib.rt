@@ -1,11 +1,13 @@
 // qp.rs: what the engine's solves answer, a verdict and, where it is Optimal, the minimum; and when the passes of `solve_piecewise_in_units` end.
+#![tactic(auto)]
+
 ghost use Rattle.std.specs.Prelude.{◌≡◌, false, ◌<◌, ◌≤◌};
 ghost use Rattle.sizes.specs.Sizes as Sizes;
 ghost use Rattle.minimum.specs.Counted as Definition;
 
 use iterate::{Counts, Ending, Passed};
 
-#[derive(Drop)]
+#[derive(Clone, Copy)]
 pub enum SolveVerdict {
     Optimal,
     NonFiniteCovariance,

@@ -1,5 +1,7 @@
 // qp.rs, `search_multiplier`: the doubling, until `high` is within the limit, and the cuts of the bracket. Neither loop counts: each ends because
 // fewer floats are left. Q is n by n, E is n by m, the rows' a is n by r; at are the kinks' points, slopes their slopes.
+#![tactic(auto)]
+
 ghost use Rattle.std.specs.Prelude.{◌≡◌, ◌+◌, take};
 ghost use Rattle.minimum.specs.Minimized.{minimized_of};
 ghost use Rattle.bracket.specs.Bracket.{bracket_of};

@@ -1,4 +1,6 @@
 // The nearest whole number of an `f64`, worked out from its bits.
+#![tactic(auto)]
+
 ghost use Rattle.std.specs.Prelude.{◌≡◌, true, ◌+◌, ◌*◌, ◌^◌, ◌≤◌, ◌<◌, pos};
 ghost use Rattle.root.specs.Scaled.{magnitude};
 ghost use Rattle.nearest.specs.Whole.{even};

@@ -1,4 +1,6 @@
 // qp.rs, `descent_ray`: the part of c in the null space of the reduced Hessian, of the basis Z, n by d, with n up to 32.
+#![tactic(auto)]
+
 ghost use Rattle.std.specs.Prelude.{◌≡◌, ◌≤◌, ◌<◌, ◌*◌, length, take};
 ghost use Rattle.sizes.specs.Sizes as Sizes;
 ghost use Rattle.vector.specs.Vector.{Below};

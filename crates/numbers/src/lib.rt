@@ -1,4 +1,6 @@
 // The numbers of a field, their ranges, and verdicts. The definitions are format's specs/Read.antt.
+#![tactic(auto)]
+
 ghost use Rattle.std.specs.Prelude.{◌≡◌, ◌≤◌, ◌<◌};
 ghost use Rattle.std.specs.Int.Signed.{le_z};
 ghost use Rattle.block.specs.Ranges.{max_sum};

@@ -1,5 +1,7 @@
 // qp.rs, `solve_piecewise` after the solve in `Units`: an answer, back in the units of the caller, where it meets the constraints and the rows.
 // n originals, m equality columns and r rows; E is n by m, the rows' a is n by r.
+#![tactic(auto)]
+
 ghost use Rattle.std.specs.Prelude.{◌≡◌, ◌≤◌, ◌+◌, ◌*◌, length, take};
 ghost use Rattle.sizes.specs.Sizes as Sizes;
 ghost use Rattle.minimum.specs.Minimized.{minimized, minimized_of};

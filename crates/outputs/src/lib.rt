@@ -1,5 +1,7 @@
 // What the engine's public calls leave for an answer: its number and, where it is an optimum, the caller's x and multipliers (with up to 32 variables
 // and 24 columns), the passes made and the raise; whatever is not 0 leaves them as they were.
+#![tactic(auto)]
+
 ghost use Rattle.std.specs.Prelude.{◌≡◌, ◌≤◌, length, take};
 ghost use Rattle.sizes.specs.Sizes as Sizes;
 ghost use Rattle.solution.specs.Solution.{answer};

@@ -1,6 +1,8 @@
 // qp.rs, a pass of `solve_piecewise_in_units`: it lists the free variables, gathers the problem in them, solves that and steps. Q is n by n, E is
 // n by m; the variables from `originals` on are slacks, each with one of the last columns of E. `indices` are the free variables, `solved` those of
 // them below `originals`, `slacks` the others. The slices from room on are work memory, but l, which holds the kept factor.
+#![tactic(auto)]
+
 ghost use Rattle.std.specs.Prelude.{◌≡◌, ◌≤◌, ◌*◌, length};
 ghost use Rattle.variable_set.specs.Rising.{Rising};
 ghost use Rattle.factoring.specs.Kept.{kept_of, Good};

@@ -1,4 +1,6 @@
 // qp.rs, `solve_piecewise` and `solve_bounded`, the public calls.
+#![tactic(auto)]
+
 ghost use Rattle.quadratic.specs.Quadratic.{quadratic};
 ghost use Rattle.piecewise.specs.Piecewise.{bounded, Answered};
 

@@ -1,5 +1,7 @@
 // qp.rs, `Constraints::new`: what decides the pivots and the rank of E, with n rows and m columns: the norms of the columns that remain, and the
 // tolerance.
+#![tactic(auto)]
+
 ghost use Rattle.std.specs.Prelude.{◌≡◌, ◌≤◌, ◌<◌, ◌*◌, min, max, length};
 ghost use Rattle.folds.specs.Best.{found, better};
 ghost use Rattle.pivot_choice.specs.PivotChoice as PivotChoice;

@@ -1,5 +1,7 @@
 // qp.rs: the first half of `Constraints::new`, of E with n rows and m columns, up to 32 and 24; p is min(n, m). Of the basis Y, n by p, the
 // first `rank` columns count, and of T, p by m, the first `rank` rows.
+#![tactic(auto)]
+
 ghost use Rattle.std.specs.Prelude.{◌≡◌, ◌≤◌, ◌<◌, ◌+◌, ◌*◌, true, false, [], ◌∷◌, ◌++◌, length, set, take, replicate};
 ghost use Rattle.folds.specs.Fold.{out, pick};
 ghost use Rattle.folds.specs.Part.{two};

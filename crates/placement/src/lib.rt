@@ -1,4 +1,6 @@
 // What the service answers, as it is held, and what it writes of an engine's answer. The definition is specs/Placed.antt.
+#![tactic(auto)]
+
 ghost use Rattle.std.specs.Prelude.{◌≡◌, ◌+◌, take};
 ghost use Rattle.block.specs.Ranges.{Ranged};
 ghost use Rattle.format.specs.Structs.{Sound, block_of};

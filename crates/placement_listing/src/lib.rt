@@ -1,4 +1,6 @@
 // The listing of what the service answers, as it is held. The definition is specs/Listing.antt.
+#![tactic(auto)]
+
 ghost use Rattle.std.specs.Prelude.{◌≡◌, ◌≤◌, length, take};
 ghost use Rattle.format.specs.Structs.{block_of};
 ghost use Rattle.exact.specs.Planned.{Planned};

@@ -1,10 +1,14 @@
 // Reads a block from standard input and prints the listing of its plan, or its refusal. The listing is specs/Places.antt.
+#![tactic(auto)]
+
 ghost use Rattle.std.specs.Prelude.{◌≡◌, List, ℕ, ◌≤◌, length, take};
 ghost use Rattle.listing.specs.Appended.{Listed};
 ghost use Rattle.listing.specs.Longest.{longest};
 ghost use Rattle.places.specs.Places.{listing};
+ghost use Rattle.std.specs.Io.{ReadsAtMost};
 
-use libc::{STDIN_FILENO, STDOUT_FILENO};
+use std::io;
+use std::io::{Read, Write};
 
 // The longest listing.
 const LISTING: usize = 672;
@@ -31,21 +35,38 @@ fn listing_of_kept(kept: [u8; format::KEPT], n: usize, out: &mut [u8]) -> usize
     listing_of(format::kept(&kept, n), out)
 }
 
-// Reads on to the end of standard input.
-fn skip_rest() {
-    let mut past = io::large_buffer();
-    for _ in 0..18446744073709551615usize {
-        if io::read_full(STDIN_FILENO, &mut past) == 0 {
-            return;
+// Reads until buf is full or the input ends: how many bytes it put at the start of buf.
+fn read_full<R: Read>(input: &mut R, buf: &mut [u8]) -> io::Result<usize>
+    ensures { ReadsAtMost result buf.new }
+{
+    let mut done = 0;
+    while done < buf.len() {
+        let n = input.read(&mut buf[done..])?;
+        if n == 0 {
+            break;
         }
+        done += n;
     }
+    Ok(done)
 }
 
-fn main() {
+// Reads on to the end of the input.
+fn skip_rest<R: Read>(input: &mut R) -> io::Result<()> {
+    let mut past = [0u8; 65536];
+    for _ in 0..u64::MAX {
+        if input.read(&mut past)? == 0 {
+            break;
+        }
+    }
+    Ok(())
+}
+
+fn main(rt: HostRuntime) -> io::Result<()> {
+    let mut input = rt.reader();
     let mut kept = [0u8; format::KEPT];
-    let n = io::read_full(STDIN_FILENO, &mut kept);
-    skip_rest();
+    let n = read_full(&mut input, &mut kept)?;
+    skip_rest(&mut input)?;
     let mut text = [0u8; LISTING];
     let k = listing_of_kept(kept, n, &mut text);
-    io::write_all(STDOUT_FILENO, &text[..k]);
+    io::writer(&rt).write_all(&text[..k])
 }

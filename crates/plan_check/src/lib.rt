@@ -1,4 +1,6 @@
 // The check of anyone's plan and prices. Document 01: "block, 9, times (0 to 262,144) and prices 5, 15". The definition is specs/Check.antt.
+#![tactic(auto)]
+
 ghost use Rattle.std.specs.Prelude.{◌≡◌, ◌+◌, ◌≤◌, ◌<◌, length};
 ghost use Rattle.format.specs.Structs.{Sound, block_of};
 ghost use Rattle.plan_check.specs.Check.{between, times_in, prices_in, count_refusal, time_refusal, price_refusal, earlier, refusal_of};

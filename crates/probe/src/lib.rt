@@ -1,4 +1,6 @@
 // Hooks for benchmarks and comparisons of the inner kernels. Each tests its slices; none is a call of the product.
+#![tactic(auto)]
+
 ghost use Rattle.std.specs.Prelude.{◌≡◌, true, ◌≤◌, ◌<◌, ◌*◌, eqb, length, take};
 ghost use Rattle.folds.specs.Fold.{out, over};
 ghost use Rattle.sizes.specs.Sizes as Sizes;

@@ -1,5 +1,7 @@
 // The problem of `solve_piecewise` and `solve_bounded`, tested: what is refused before the engine. Q is n by n, E is n by m, the rows' a is n by r,
 // with up to 32 variables, 8 columns and 16 rows. The definitions are specs/Quadratic.antt.
+#![tactic(auto)]
+
 ghost use Rattle.std.specs.Prelude.{◌≡◌, ◌≤◌, length};
 ghost use Rattle.sizes.specs.Sizes as Sizes;
 ghost use Rattle.quadratic.specs.Quadratic.{quadratic};

@@ -1,5 +1,7 @@
 // qp.rs, `solve_factored`: the KKT system of a positive definite K with the Cholesky factor l, by the range-space method.
 // K is n by n, E is n by m, with up to 32 variables and 24 columns. No diagonal entry of l is 0, so every system of it is solved.
+#![tactic(auto)]
+
 ghost use Rattle.std.specs.Prelude.{◌≡◌, true, ◌≤◌, ◌*◌, length, take};
 ghost use Rattle.folds.specs.Fold.{out};
 ghost use Rattle.sizes.specs.Sizes as Sizes;

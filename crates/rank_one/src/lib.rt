@@ -1,5 +1,7 @@
 // Document 01's rank-one step: a Cholesky factor changed by a vector and a sign, column by column. That of n variables is the first n * n elements of
 // its array.
+#![tactic(auto)]
+
 ghost use Rattle.std.specs.Prelude.{◌≡◌, ◌≤◌, ◌<◌, ◌*◌, length};
 ghost use Rattle.folds.specs.Part.{two};
 ghost use Rattle.rank_one.specs.RankOne as RankOne;

@@ -1,4 +1,6 @@
 // qp.rs, `descent_ray`. Q is n by n, E is n by m, with up to 32 variables and 24 columns. The `&mut` slices are work memory.
+#![tactic(auto)]
+
 ghost use Rattle.std.specs.Prelude.{◌≡◌, ◌≤◌, ◌*◌, length};
 ghost use Rattle.sizes.specs.Sizes as Sizes;
 ghost use Rattle.scaled_ray.specs.ScaledRay.{ray_of};

@@ -1,5 +1,7 @@
 // qp.rs, in a pass of `solve_piecewise_in_units`: the step along a direction of zero curvature, if there is one. The free variables `indices` are
 // `solved`, those below `originals`, and, after them, `slacks`.
+#![tactic(auto)]
+
 ghost use Rattle.std.specs.Prelude.{◌≡◌, length};
 ghost use Rattle.segments.specs.Segments.{AllCut};
 ghost use Rattle.free_list.specs.FreeList.{Ends};

@@ -1,4 +1,6 @@
 // Reads a block file. The definition is `read` of format's specs/Read.antt.
+#![tactic(auto)]
+
 ghost use Rattle.std.specs.Prelude.{◌≡◌, true, false};
 ghost use Rattle.format.specs.Read as Read;
 ghost use Rattle.format.specs.Structs.{block_of, read_of, Sound};

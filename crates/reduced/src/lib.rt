@@ -1,4 +1,6 @@
 // qp.rs, `solve_noisy_kkt`: its steps in the null space of Eᵀ, of which the d columns of Z are a basis. K is n by n, with n up to 32.
+#![tactic(auto)]
+
 ghost use Rattle.std.specs.Prelude.{◌≡◌, ◌≤◌, ◌<◌, ◌*◌, length, take};
 ghost use Rattle.sizes.specs.Sizes as Sizes;
 ghost use Rattle.vector.specs.Vector.{Below};

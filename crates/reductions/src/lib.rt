@@ -1,4 +1,6 @@
 // What a vector comes to: its sums, norms and largest element. A vector is a slice, of which the first n elements count.
+#![tactic(auto)]
+
 ghost use Rattle.std.specs.Prelude.{◌≡◌, ◌≤◌, length};
 ghost use Rattle.reductions.specs.Reductions as Reductions;
 

@@ -1,4 +1,6 @@
 // qp.rs, the release in `solve_piecewise_in_units`, at x: the gradient, what the constraints push back, and the scale that the rates are measured by.
+#![tactic(auto)]
+
 ghost use Rattle.std.specs.Prelude.{◌≡◌, ◌≤◌, ◌*◌, length};
 ghost use Rattle.folds.specs.Fold.{over};
 ghost use Rattle.sizes.specs.Sizes as Sizes;

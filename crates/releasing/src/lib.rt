@@ -1,4 +1,6 @@
 // qp.rs: which held variable leaves the active set, at an equality-constrained optimum. Of up to 48 variables and slacks.
+#![tactic(auto)]
+
 ghost use Rattle.std.specs.Prelude.{◌≡◌, true, cond, ◌≤◌, ◌<◌, length};
 ghost use Rattle.folds.specs.Best.{found, better};
 ghost use Rattle.sizes.specs.Sizes as Sizes;
@@ -9,7 +11,7 @@ ghost use Rattle.releasing.specs.Release.{as_best, at_least};
 use segments::{Segments, Spot, State};
 
 // The rate at which the objective falls as a held variable moves into a segment next to it, and that segment.
-#[derive(Drop)]
+#[derive(Clone, Copy)]
 pub enum Descent {
     Into(f64, usize),
     Nowhere,

@@ -1,8 +1,12 @@
 // Reads the records of the fixed lists of cases (docs/CASES.md) and compares floats with them. Past the end of a record
 // every byte is 0.
-ghost use Rattle.std.specs.Prelude.{◌≡◌, ◌*◌, ◌<◌, ◌≤◌, length};
+#![tactic(auto)]
 
-use libc::{STDIN_FILENO, STDOUT_FILENO};
+ghost use Rattle.std.specs.Prelude.{◌≡◌, ◌*◌, ◌<◌, ◌≤◌, length};
+ghost use Rattle.std.specs.Io.{ReadsAtMost};
+
+use std::io;
+use std::io::{Read, Write};
 
 fn wide(b: u8) -> usize
     ensures { result < 256 }
@@ -98,7 +102,7 @@ fn width(t: usize) -> usize {
 }
 
 // Where a reader of floats is: the next byte, the last float, and how many times more it comes.
-#[derive(Drop)]
+#[derive(Clone, Copy)]
 pub struct Cursor {
     pub at: usize,
     pub last: f64,
@@ -306,25 +310,39 @@ pub fn add(tally: &mut [u64], at: usize, n: u64) {
 // More than any length.
 const END: usize = 0xffff_ffff_ffff_ffff;
 
-// The next record of standard input goes to the start of body: its length, or more than body has where there is none.
-pub fn record(body: &mut [u8]) -> usize {
+// Reads until buf is full or the input ends: how many bytes it put at the start of buf.
+fn read_full<R: Read>(input: &mut R, buf: &mut [u8]) -> io::Result<usize>
+    ensures { ReadsAtMost result buf.new }
+{
+    let mut done = 0;
+    while done < buf.len() {
+        let n = input.read(&mut buf[done..])?;
+        if n == 0 {
+            break;
+        }
+        done += n;
+    }
+    Ok(done)
+}
+
+// The next record of the input goes to the start of body: its length, or more than body has where there is none.
+pub fn record<R: Read>(input: &mut R, body: &mut [u8]) -> io::Result<usize> {
     let mut head = [0u8; 2];
-    if io::read_full(STDIN_FILENO, &mut head) < 2 {
-        return END;
+    if read_full(input, &mut head)? < 2 {
+        return Ok(END);
     }
     let n = number16(&head, 0);
     if n > body.len() {
-        return END;
+        return Ok(END);
     }
-    if io::read_full(STDIN_FILENO, &mut body[..n]) < n {
-        return END;
+    if read_full(input, &mut body[..n])? < n {
+        return Ok(END);
     }
-    n
+    Ok(n)
 }
 
-// A line of standard output.
-pub fn line(name: &[u8], n: u64) {
-    io::write_all(STDOUT_FILENO, name);
-    io::print_decimal(STDOUT_FILENO, n);
-    io::write_all(STDOUT_FILENO, b"\n");
+// A line of the output.
+pub fn line<W: Write>(out: &mut W, name: &[u8], n: u64) -> io::Result<()> {
+    out.write_all(name)?;
+    writeln!(out, "{n}")
 }

@@ -1,9 +1,14 @@
 // Runs the kernels on the cases of standard input again, in the format of docs/CASES.md, 'Kernels', and compares every bit
 // with the reference. A case whose counts fit no kernel differs.
+#![tactic(auto)]
+
 ghost use Rattle.std.specs.Prelude.{◌≡◌, ◌*◌, ◌<◌, ◌≤◌, length};
 
+use std::io;
+use std::io::Write;
+
 // What a record says of a case: its kind and counts, and whether there is an answer.
-#[derive(Drop)]
+#[derive(Clone, Copy)]
 struct Case {
     kind: usize,
     n: usize,
@@ -424,40 +429,42 @@ fn count(tally: &mut [u64], r: Replayed) {
     replay::add(tally, DIFFERENCES, 1);
 }
 
-fn report(tally: [u64; 18]) {
-    replay::line(b"records ", tally[RECORDS]);
-    replay::line(b"answers ", tally[ANSWERS]);
-    replay::line(b"nothing ", tally[NOTHING]);
-    replay::line(b"differences ", tally[DIFFERENCES]);
+fn report<W: Write>(out: &mut W, tally: [u64; 18]) -> io::Result<()> {
+    replay::line(out, b"records ", tally[RECORDS])?;
+    replay::line(out, b"answers ", tally[ANSWERS])?;
+    replay::line(out, b"nothing ", tally[NOTHING])?;
+    replay::line(out, b"differences ", tally[DIFFERENCES])
 }
 
-fn report_kinds(tally: [u64; 18]) {
-    replay::line(b"root ", tally[KINDS]);
-    replay::line(b"dot ", tally[KINDS + 1]);
-    replay::line(b"norm ", tally[KINDS + 2]);
-    replay::line(b"scaled norm ", tally[KINDS + 3]);
-    replay::line(b"amax ", tally[KINDS + 4]);
-    replay::line(b"cholesky ", tally[KINDS + 5]);
-    replay::line(b"positive definite ", tally[KINDS + 6]);
-    replay::line(b"forward ", tally[KINDS + 7]);
-    replay::line(b"transposed ", tally[KINDS + 8]);
-    replay::line(b"remove ", tally[KINDS + 9]);
-    replay::line(b"insert ", tally[KINDS + 10]);
-    replay::line(b"qr ", tally[KINDS + 11]);
-    replay::line(b"rotate ", tally[KINDS + 12]);
-    replay::line(b"eigen ", tally[KINDS + 13]);
+fn report_kinds<W: Write>(out: &mut W, tally: [u64; 18]) -> io::Result<()> {
+    replay::line(out, b"root ", tally[KINDS])?;
+    replay::line(out, b"dot ", tally[KINDS + 1])?;
+    replay::line(out, b"norm ", tally[KINDS + 2])?;
+    replay::line(out, b"scaled norm ", tally[KINDS + 3])?;
+    replay::line(out, b"amax ", tally[KINDS + 4])?;
+    replay::line(out, b"cholesky ", tally[KINDS + 5])?;
+    replay::line(out, b"positive definite ", tally[KINDS + 6])?;
+    replay::line(out, b"forward ", tally[KINDS + 7])?;
+    replay::line(out, b"transposed ", tally[KINDS + 8])?;
+    replay::line(out, b"remove ", tally[KINDS + 9])?;
+    replay::line(out, b"insert ", tally[KINDS + 10])?;
+    replay::line(out, b"qr ", tally[KINDS + 11])?;
+    replay::line(out, b"rotate ", tally[KINDS + 12])?;
+    replay::line(out, b"eigen ", tally[KINDS + 13])
 }
 
-fn main() {
+fn main(rt: HostRuntime) -> io::Result<()> {
+    let mut input = rt.reader();
     let mut tally = [0u64; 18];
     let mut body = [0u8; 16000];
     for _ in 0..1000000usize {
-        let n = replay::record(&mut body);
+        let n = replay::record(&mut input, &mut body)?;
         if n > body.len() {
             break;
         }
         count(&mut tally, run(&body[..n]));
     }
-    report_kinds(tally);
-    report(tally);
+    let mut out = io::writer(&rt);
+    report_kinds(&mut out, tally)?;
+    report(&mut out, tally)
 }

@@ -1,4 +1,8 @@
 // Reads and checks the stored blocks of standard input again, in the format of docs/CASES.md, 'Blocks', and compares with the reference.
+#![tactic(auto)]
+
+use std::io;
+use std::io::Write;
 
 // Two's complement.
 fn i32_at(s: &[u8], at: usize) -> i32 {
@@ -43,7 +47,7 @@ fn plan_at(s: &[u8], at: usize, prices_at: usize) -> Plan {
 }
 
 // What a check gave, and where the next begins.
-#[derive(Drop)]
+#[derive(Clone, Copy)]
 struct Compared {
     same: bool,
     at: usize,
@@ -154,7 +158,7 @@ fn record(s: &[u8]) -> Replayed {
     record_in(s, &s[2..e], e)
 }
 
-#[derive(Drop)]
+#[derive(Clone, Copy)]
 struct Tally {
     blocks: u64,
     accepted: u64,
@@ -173,14 +177,15 @@ fn with_record(t: Tally, r: Replayed) -> Tally {
     next
 }
 
-fn report(t: Tally) {
-    replay::line(b"blocks ", t.blocks);
-    replay::line(b"accepted ", t.accepted);
-    replay::line(b"checks ", t.checks);
-    replay::line(b"differences ", t.differ);
+fn report<W: Write>(out: &mut W, t: Tally) -> io::Result<()> {
+    replay::line(out, b"blocks ", t.blocks)?;
+    replay::line(out, b"accepted ", t.accepted)?;
+    replay::line(out, b"checks ", t.checks)?;
+    replay::line(out, b"differences ", t.differ)
 }
 
-fn main() {
+fn main(rt: HostRuntime) -> io::Result<()> {
+    let mut input = rt.reader();
     let mut tally = Tally {
         blocks: 0,
         accepted: 0,
@@ -189,11 +194,12 @@ fn main() {
     };
     let mut body = [0u8; 16000];
     for _ in 0..1000000usize {
-        let n = replay::record(&mut body);
+        let n = replay::record(&mut input, &mut body)?;
         if n > body.len() {
             break;
         }
         tally = with_record(tally, record(&body[..n]));
     }
-    report(tally);
+    let mut out = io::writer(&rt);
+    report(&mut out, tally)
 }

@@ -1,8 +1,12 @@
 // Runs `solve_bounded`, `solve_piecewise` and `solve_turnover_capped` on the cases of standard input again, in the format of docs/CASES.md,
 // 'Engine calls', and compares number, passes and every bit with the reference.
+#![tactic(auto)]
+
 ghost use Rattle.std.specs.Prelude.{◌≤◌, length};
 
 use replay::{BEFORE, Cursor, Floats};
+use std::io;
+use std::io::Write;
 
 // What the passes are before a call, and after a refusal.
 const PASSES: u64 = 123_456_789;
@@ -413,34 +417,41 @@ fn count_record(
     replay::add(unknown, DIFFERING, 1);
 }
 
-fn report_call(name: &[u8], tally: [u64; 9]) {
-    replay::line(name, tally[CASES]);
-    replay::line(b"solved ", tally[SOLVED]);
-    replay::line(b"wrong shape ", tally[WRONG_SHAPE]);
-    replay::line(b"blank bound ", tally[BLANK_BOUND]);
-    replay::line(b"not finite ", tally[NOT_FINITE]);
-    replay::line(b"singular ", tally[SINGULAR]);
-    replay::line(b"unbounded ", tally[UNBOUNDED]);
-    replay::line(b"not converged ", tally[NOT_CONVERGED]);
-    replay::line(b"differing ", tally[DIFFERING]);
+fn report_call<W: Write>(out: &mut W, name: &[u8], tally: [u64; 9]) -> io::Result<()> {
+    replay::line(out, name, tally[CASES])?;
+    replay::line(out, b"solved ", tally[SOLVED])?;
+    replay::line(out, b"wrong shape ", tally[WRONG_SHAPE])?;
+    replay::line(out, b"blank bound ", tally[BLANK_BOUND])?;
+    replay::line(out, b"not finite ", tally[NOT_FINITE])?;
+    replay::line(out, b"singular ", tally[SINGULAR])?;
+    replay::line(out, b"unbounded ", tally[UNBOUNDED])?;
+    replay::line(out, b"not converged ", tally[NOT_CONVERGED])?;
+    replay::line(out, b"differing ", tally[DIFFERING])
 }
 
-fn report(bounded: [u64; 9], piecewise: [u64; 9], capped: [u64; 9], unknown: [u64; 2]) {
-    report_call(b"bounded ", bounded);
-    report_call(b"piecewise ", piecewise);
-    report_call(b"capped ", capped);
-    replay::line(b"unknown call ", unknown[CASES]);
-    replay::line(b"differing ", unknown[DIFFERING]);
+fn report<W: Write>(
+    out: &mut W,
+    bounded: [u64; 9],
+    piecewise: [u64; 9],
+    capped: [u64; 9],
+    unknown: [u64; 2],
+) -> io::Result<()> {
+    report_call(out, b"bounded ", bounded)?;
+    report_call(out, b"piecewise ", piecewise)?;
+    report_call(out, b"capped ", capped)?;
+    replay::line(out, b"unknown call ", unknown[CASES])?;
+    replay::line(out, b"differing ", unknown[DIFFERING])
 }
 
-fn main() {
+fn main(rt: HostRuntime) -> io::Result<()> {
+    let mut input = rt.reader();
     let mut bounded = [0u64; 9];
     let mut piecewise = [0u64; 9];
     let mut capped = [0u64; 9];
     let mut unknown = [0u64; 2];
     let mut body = [0u8; 16000];
     for _ in 0..1000000usize {
-        let n = replay::record(&mut body);
+        let n = replay::record(&mut input, &mut body)?;
         if n > body.len() {
             break;
         }
@@ -452,5 +463,6 @@ fn main() {
             &mut unknown,
         );
     }
-    report(bounded, piecewise, capped, unknown);
+    let mut out = io::writer(&rt);
+    report(&mut out, bounded, piecewise, capped, unknown)
 }

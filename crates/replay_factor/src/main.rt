@@ -1,5 +1,7 @@
 // Runs `Factoring` and `solve_factored` on the cases of standard input again, in the format of docs/CASES.md, 'The factor', and compares sets and
 // every bit with the reference.
+#![tactic(auto)]
+
 ghost use Rattle.std.specs.Prelude.{◌≡◌, ◌*◌, ◌≤◌, length};
 ghost use Rattle.sizes.specs.Sizes as Sizes;
 ghost use Rattle.scaled.specs.System.{Sized};
@@ -7,6 +9,8 @@ ghost use Rattle.factor_update.specs.Block.{Block};
 ghost use Rattle.factoring.specs.Kept as Kept;
 
 use factoring::Factoring;
+use std::io;
+use std::io::Write;
 
 const ORIGINALS: usize = sizes::ORIGINALS;
 
@@ -49,7 +53,7 @@ fn singular_differs(f: Factoring, bits: usize) -> bool {
 
 // A sequence before a step: where the step is in the record, what is kept, how many updates gave a factor and how many nothing, and how many sets and
 // floats have come out otherwise.
-#[derive(Drop)]
+#[derive(Clone, Copy)]
 struct Sequence {
     at: usize,
     kept: Factoring,
@@ -370,13 +374,13 @@ fn count(tally: &mut [u64], r: Replayed) {
     replay::add(tally, UNSOLVED, r.unsolved as u64);
 }
 
-fn report(tally: [u64; 6]) {
-    replay::line(b"factors ", tally[FACTORS]);
-    replay::line(b"no factor ", tally[NOTHING]);
-    replay::line(b"solutions ", tally[SOLUTIONS]);
-    replay::line(b"no solution ", tally[UNSOLVED]);
-    replay::line(b"records ", tally[RECORDS]);
-    replay::line(b"differences ", tally[DIFFERENCES]);
+fn report<W: Write>(out: &mut W, tally: [u64; 6]) -> io::Result<()> {
+    replay::line(out, b"factors ", tally[FACTORS])?;
+    replay::line(out, b"no factor ", tally[NOTHING])?;
+    replay::line(out, b"solutions ", tally[SOLUTIONS])?;
+    replay::line(out, b"no solution ", tally[UNSOLVED])?;
+    replay::line(out, b"records ", tally[RECORDS])?;
+    replay::line(out, b"differences ", tally[DIFFERENCES])
 }
 
 fn run(s: &[u8]) -> Replayed {
@@ -386,15 +390,17 @@ fn run(s: &[u8]) -> Replayed {
     run_system(s)
 }
 
-fn main() {
+fn main(rt: HostRuntime) -> io::Result<()> {
+    let mut input = rt.reader();
     let mut tally = [0u64; 6];
     let mut body = [0u8; 24000];
     for _ in 0..1000000usize {
-        let n = replay::record(&mut body);
+        let n = replay::record(&mut input, &mut body)?;
         if n > body.len() {
             break;
         }
         count(&mut tally, run(&body[..n]));
     }
-    report(tally);
+    let mut out = io::writer(&rt);
+    report(&mut out, tally)
 }

@@ -1,5 +1,9 @@
 // Runs `solve_kkt` on the cases of standard input again, in the format of docs/CASES.md, 'Engine calls', and compares its
 // number and every bit with the reference.
+#![tactic(auto)]
+
+use std::io;
+use std::io::Write;
 
 // How many floats of a case come out otherwise; what follows the outcome in the record s begins at a place.
 fn compare(
@@ -103,25 +107,27 @@ fn count(tally: &mut [u64], r: Replayed) {
     replay::add(tally, DIFFERENCES, r.differ as u64);
 }
 
-fn report(tally: [u64; 7]) {
-    replay::line(b"solved ", tally[SOLVED]);
-    replay::line(b"wrong shape ", tally[WRONG_SHAPE]);
-    replay::line(b"not finite ", tally[NOT_FINITE]);
-    replay::line(b"singular ", tally[SINGULAR]);
-    replay::line(b"no optimum ", tally[NO_OPTIMUM]);
-    replay::line(b"records ", tally[RECORDS]);
-    replay::line(b"differences ", tally[DIFFERENCES]);
+fn report<W: Write>(out: &mut W, tally: [u64; 7]) -> io::Result<()> {
+    replay::line(out, b"solved ", tally[SOLVED])?;
+    replay::line(out, b"wrong shape ", tally[WRONG_SHAPE])?;
+    replay::line(out, b"not finite ", tally[NOT_FINITE])?;
+    replay::line(out, b"singular ", tally[SINGULAR])?;
+    replay::line(out, b"no optimum ", tally[NO_OPTIMUM])?;
+    replay::line(out, b"records ", tally[RECORDS])?;
+    replay::line(out, b"differences ", tally[DIFFERENCES])
 }
 
-fn main() {
+fn main(rt: HostRuntime) -> io::Result<()> {
+    let mut input = rt.reader();
     let mut tally = [0u64; 7];
     let mut body = [0u8; 16000];
     for _ in 0..1000000usize {
-        let n = replay::record(&mut body);
+        let n = replay::record(&mut input, &mut body)?;
         if n > body.len() {
             break;
         }
         count(&mut tally, run(&body[..n]));
     }
-    report(tally);
+    let mut out = io::writer(&rt);
+    report(&mut out, tally)
 }

@@ -1,4 +1,8 @@
 // Places the stored blocks of standard input again, in the format of docs/CASES.md, 'Blocks', and compares every byte with the reference.
+#![tactic(auto)]
+
+use std::io;
+use std::io::Write;
 
 // What the slice holds before a call, and more bytes than any answer has.
 const BEFORE: u8 = 165;
@@ -103,7 +107,7 @@ fn record(s: &[u8]) -> Replayed {
     record_in(s, &s[2..e], e)
 }
 
-#[derive(Drop)]
+#[derive(Clone, Copy)]
 struct Tally {
     blocks: u64,
     placed: u64,
@@ -120,13 +124,14 @@ fn with_record(t: Tally, r: Replayed) -> Tally {
     next
 }
 
-fn report(t: Tally) {
-    replay::line(b"blocks ", t.blocks);
-    replay::line(b"placed ", t.placed);
-    replay::line(b"differences ", t.differ);
+fn report<W: Write>(out: &mut W, t: Tally) -> io::Result<()> {
+    replay::line(out, b"blocks ", t.blocks)?;
+    replay::line(out, b"placed ", t.placed)?;
+    replay::line(out, b"differences ", t.differ)
 }
 
-fn main() {
+fn main(rt: HostRuntime) -> io::Result<()> {
+    let mut input = rt.reader();
     let mut tally = Tally {
         blocks: 0,
         placed: 0,
@@ -134,11 +139,12 @@ fn main() {
     };
     let mut body = [0u8; 16000];
     for _ in 0..1000000usize {
-        let n = replay::record(&mut body);
+        let n = replay::record(&mut input, &mut body)?;
         if n > body.len() {
             break;
         }
         tally = with_record(tally, record(&body[..n]));
     }
-    report(tally);
+    let mut out = io::writer(&rt);
+    report(&mut out, tally)
 }

@@ -1,5 +1,7 @@
 // qp.rs, a pass of `solve_piecewise_in_units`: the right side of the free problem, which is solved for the step from x: the linear term, the gradient
 // and what each constraint lacks.
+#![tactic(auto)]
+
 ghost use Rattle.std.specs.Prelude.{◌≡◌, ◌≤◌, ◌*◌, length, take};
 ghost use Rattle.sizes.specs.Sizes as Sizes;
 ghost use Rattle.vector.specs.Vector.{Below};

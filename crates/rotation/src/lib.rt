@@ -1,4 +1,6 @@
 // eigen.rs, `rotate`: the Jacobi rotation, A ← JᵀAJ and V ← VJ, of n by n matrices.
+#![tactic(auto)]
+
 ghost use Rattle.std.specs.Prelude.{◌≡◌, ◌≤◌, ◌<◌, ◌*◌, length};
 ghost use Rattle.folds.specs.Part.{two};
 ghost use Rattle.rotation.specs.Rotation as Rotation;

@@ -1,4 +1,6 @@
 // What the service writes of the engine's numbers: times and prices. The definitions are specs/Rounding.antt.
+#![tactic(auto)]
+
 ghost use Rattle.std.specs.Prelude.{◌≡◌, ◌+◌, ◌≤◌, length};
 ghost use Rattle.block.specs.Ranges.{max_words, max_anchors, max_spans};
 ghost use Rattle.rounding.specs.Rounding.{held, price_of, cap_price_of};

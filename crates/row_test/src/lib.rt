@@ -1,4 +1,6 @@
 // qp.rs, `meets_rows`: whether each row's sum is within its limits. n variables and r rows; the rows' a is n by r.
+#![tactic(auto)]
+
 ghost use Rattle.std.specs.Prelude.{◌≡◌, ◌≤◌, ◌*◌, length};
 ghost use Rattle.row_test.specs.Limits as Limits;
 

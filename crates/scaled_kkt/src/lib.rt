@@ -1,5 +1,7 @@
 // qp.rs, `solve_noisy_kkt`: the solve of a system that is scaled. K is n by n, E is n by m, with up to 32 variables and 24 columns. The `&mut`
 // slices are work memory.
+#![tactic(auto)]
+
 ghost use Rattle.std.specs.Prelude.{◌≡◌, ◌≤◌, ◌-◌, ◌*◌, min, length};
 ghost use Rattle.sizes.specs.Sizes as Sizes;
 ghost use Rattle.vector.specs.Vector.{Below};

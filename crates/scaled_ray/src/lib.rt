@@ -1,5 +1,7 @@
 // qp.rs, `descent_ray`: the ray of a problem that is scaled. K is n by n, E is n by m, with up to 32 variables and 24 columns. The `&mut` slices
 // from `room` or `coefficients` on are work memory.
+#![tactic(auto)]
+
 ghost use Rattle.std.specs.Prelude.{◌≡◌, false, ◌≤◌, ◌*◌, length, take};
 ghost use Rattle.sizes.specs.Sizes as Sizes;
 ghost use Rattle.constraints.specs.Room.{Room};

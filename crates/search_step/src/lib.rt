@@ -1,5 +1,7 @@
 // qp.rs, `search_multiplier`: what the search makes of one solve's answer, in the doubling and in the cuts, and the answer of the bracket that it
 // ends in. at are the kinks' points.
+#![tactic(auto)]
+
 ghost use Rattle.std.specs.Prelude.{◌≡◌, ℕ, ◌≤◌, length, take};
 ghost use Rattle.sizes.specs.Sizes as Sizes;
 ghost use Rattle.minimum.specs.Minimized.{minimized};

@@ -1,4 +1,6 @@
 // qp.rs: `Segments`, `State`, a variable's start in `solve_piecewise_in_units`, and the freeing of all, up to 48 variables and slacks.
+#![tactic(auto)]
+
 ghost use Rattle.std.specs.Prelude.{◌≡◌, ◌≤◌, ◌<◌, min, length};
 ghost use Rattle.folds.specs.Fold.{pick};
 ghost use Rattle.sizes.specs.Sizes as Sizes;
@@ -10,7 +12,7 @@ ghost use Rattle.segments.specs.Freeing as Freeing;
 
 // One variable's range, cut at its kink when that lies strictly inside: `count` points, and a slope for each segment between two of them.
 // What stands past them is never read.
-#[derive(Drop)]
+#[derive(Clone, Copy)]
 pub struct Segments {
     pub points: [f64; 3],
     pub slopes: [f64; 2],
@@ -18,14 +20,14 @@ pub struct Segments {
 }
 
 // Where a variable is: held at one of its segments' end points, or free inside a segment.
-#[derive(Drop)]
+#[derive(Clone, Copy)]
 pub enum State {
     At(usize),
     Free(usize),
 }
 
 // A place of an array of states, which may hold structs alone.
-#[derive(Drop)]
+#[derive(Clone, Copy)]
 pub struct Spot {
     pub state: State,
 }

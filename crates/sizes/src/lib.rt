@@ -1,4 +1,6 @@
 // Document 01, 'Engine sizes: at most 32 originals, 8 equality columns, 16 rows', and what follows from them.
+#![tactic(auto)]
+
 pub const ORIGINALS: usize = 32;
 
 pub const EQUALITIES: usize = 8;

@@ -1,5 +1,7 @@
 // qp.rs: `kept_columns`, `with_slack_steps`, `step_noise`, and the multipliers of all columns. E is n by m. The variables from `originals` on are
 // the slacks; the row of slack i is E's column first + i - originals.
+#![tactic(auto)]
+
 ghost use Rattle.std.specs.Prelude.{◌≡◌, ◌≤◌, ◌<◌, ◌+◌, ◌*◌, length};
 ghost use Rattle.folds.specs.Fold.{over};
 ghost use Rattle.sizes.specs.Sizes as Sizes;

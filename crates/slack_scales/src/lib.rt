@@ -1,5 +1,7 @@
 // qp.rs, `scales_with_slacks` and `slack_scale`: the scales of the variables, then of the slacks, one for each row. n originals and r rows; Q with
 // the slacks is n + r by n + r, the rows' a is n by r.
+#![tactic(auto)]
+
 ghost use Rattle.std.specs.Prelude.{◌≡◌, ◌+◌, ◌≤◌, ◌*◌, length, take};
 ghost use Rattle.folds.specs.Fold.{over};
 ghost use Rattle.sizes.specs.Sizes as Sizes;

@@ -1,4 +1,6 @@
 // qp.rs, `solve_piecewise` past its tests: the slacks, `Units`, the engine in work memory of its size, and back in the units of the caller.
+#![tactic(auto)]
+
 ghost use Rattle.std.specs.Prelude.{◌≡◌, ◌≤◌, ◌+◌, ◌*◌, length};
 ghost use Rattle.sizes.specs.Sizes as Sizes;
 ghost use Rattle.minimum.specs.Minimized.{minimized_of};

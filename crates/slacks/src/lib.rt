@@ -1,5 +1,7 @@
 // qp.rs: what `solve_piecewise` does before the solve in units: `with_slacks`, the segments, the start.
 // n originals, m equality columns and r rows; Q is n by n, E is n by m, the rows' a is n by r.
+#![tactic(auto)]
+
 ghost use Rattle.std.specs.Prelude.{◌≡◌, ◌+◌, ◌*◌, ◌<◌, ◌≤◌, length, take};
 ghost use Rattle.folds.specs.Fold.{over};
 ghost use Rattle.sizes.specs.Sizes as Sizes;

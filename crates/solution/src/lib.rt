@@ -1,4 +1,6 @@
 // qp.rs: the answers of `solve_noisy_kkt` and `solve_kkt`, and what is done with them. K is n by n, E is n by m, up to 32 and 24.
+#![tactic(auto)]
+
 ghost use Rattle.std.specs.Prelude.{◌≡◌, ◌≤◌, ◌*◌, length, take};
 ghost use Rattle.folds.specs.Fold.{over};
 ghost use Rattle.sizes.specs.Sizes as Sizes;

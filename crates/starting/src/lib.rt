@@ -1,5 +1,7 @@
 // qp.rs, `solve_piecewise_in_units` before its passes: which variables are fixed, the largest values of the problem, and the first iterate: the start
 // held to its range, with each variable's first state. Q is n by n.
+#![tactic(auto)]
+
 ghost use Rattle.std.specs.Prelude.{◌≡◌, false, ◌≤◌, ◌*◌, length, replicate};
 ghost use Rattle.folds.specs.Fold.{over};
 ghost use Rattle.sizes.specs.Sizes as Sizes;

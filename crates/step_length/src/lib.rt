@@ -1,4 +1,6 @@
 // qp.rs: how far a step goes: `ratio_test` along a direction, and the full step's own rule towards a target.
+#![tactic(auto)]
+
 ghost use Rattle.std.specs.Prelude.{◌≡◌, ◌≤◌, length};
 ghost use Rattle.folds.specs.Best.{better};
 ghost use Rattle.step_length.specs.StepLength as StepLength;

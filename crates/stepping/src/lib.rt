@@ -1,4 +1,6 @@
 // qp.rs, in `solve_piecewise_in_units`: the free variables' moves, along a step and to a target, and whether x is where it was.
+#![tactic(auto)]
+
 ghost use Rattle.std.specs.Prelude.{◌≡◌, ◌≤◌, ◌<◌, length};
 ghost use Rattle.folds.specs.Fold.{out};
 ghost use Rattle.vector.specs.Vector.{Below};

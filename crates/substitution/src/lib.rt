@@ -1,4 +1,6 @@
 // qp.rs, `Constraints`: substitution in the triangle that T, p by m, has on its pivot columns, of which there are `rank`.
+#![tactic(auto)]
+
 ghost use Rattle.std.specs.Prelude.{◌≡◌, ◌≤◌, ◌<◌, ◌*◌, length};
 ghost use Rattle.vector.specs.Vector.{Below};
 ghost use Rattle.substitution.specs.Substitution as Substitution;

@@ -1,4 +1,6 @@
 // Triangular systems, in document 01's order of sums. An n by n matrix is read in its lower triangle only.
+#![tactic(auto)]
+
 ghost use Rattle.std.specs.Prelude.{◌≡◌, ◌≤◌, ◌<◌, ◌*◌, length};
 ghost use Rattle.folds.specs.Fold.{out};
 ghost use Rattle.triangular.specs.Triangular as Triangular;

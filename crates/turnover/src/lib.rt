@@ -1,4 +1,6 @@
 // qp.rs: `kink_multiplier`, `sum_rounding`, and what `solve_turnover_capped` measures of a point: its turnover, and the slack of the limit on it.
+#![tactic(auto)]
+
 ghost use Rattle.std.specs.Prelude.{◌≡◌, ◌≤◌, ◌*◌, length};
 ghost use Rattle.sizes.specs.Sizes.{variables};
 ghost use Rattle.turnover.specs.Turnover as Turnover;

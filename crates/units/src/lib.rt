@@ -1,4 +1,6 @@
 // qp.rs: `checked`, `Units` and `diagonal_scales`. K is n by n, E is n by m, with up to 48 variables and 24 columns.
+#![tactic(auto)]
+
 ghost use Rattle.std.specs.Prelude.{◌≡◌, ◌≤◌, ◌<◌, ◌*◌, length, take};
 ghost use Rattle.folds.specs.Fold.{over};
 ghost use Rattle.sizes.specs.Sizes as Sizes;

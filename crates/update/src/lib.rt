@@ -1,4 +1,6 @@
 // A Cholesky factor as a variable leaves or joins, by document 01's rank-one step. That of k variables is the first k * k elements of its array.
+#![tactic(auto)]
+
 ghost use Rattle.std.specs.Prelude.{◌≡◌, ◌≤◌, ◌<◌, ◌*◌, ◌+◌, length};
 ghost use Rattle.folds.specs.Fold.{over, span};
 ghost use Rattle.sizes.specs.Sizes.{originals};

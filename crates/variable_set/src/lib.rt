@@ -1,5 +1,7 @@
 // Sets of the first `originals` variables: as a mark for each, and as a list in rising order.
 // qp.rs, `updated`: how many of the listed variables join those of a factor, and whether that many are better factored afresh.
+#![tactic(auto)]
+
 ghost use Rattle.std.specs.Prelude.{◌≡◌, ◌≤◌, ◌<◌, ◌+◌, length};
 ghost use Rattle.folds.specs.Fold.{over};
 ghost use Rattle.folds.specs.Marks as Marks;

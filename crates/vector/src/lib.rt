@@ -1,4 +1,6 @@
 // Vectors: a slice, of which the first n elements count.
+#![tactic(auto)]
+
 ghost use Rattle.std.specs.Prelude.{◌≡◌, ◌+◌, ◌≤◌, ◌<◌, length};
 ghost use Rattle.folds.specs.Fold.{over};
 ghost use Rattle.folds.specs.Chosen.{held, push_if};

@@ -1,1 +1,3 @@
 // Nothing runs here: what the proofs by hand share.
+
+#![tactic(auto)]

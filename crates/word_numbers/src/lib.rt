@@ -1,4 +1,6 @@
 // The numbers of a block's words that the engine gets, a list for each, and the cap, as floats. The definitions are specs/Words.antt.
+#![tactic(auto)]
+
 ghost use Rattle.std.specs.Prelude.{◌≡◌, length};
 ghost use Rattle.format.specs.Structs.{Sound, word_of, block_of};
 ghost use Rattle.word_numbers.specs.Numbers as Numbers;
@@ -7,7 +9,7 @@ ghost use Rattle.word_numbers.specs.Words as Words;
 use format::{Block, Word};
 
 // A number of a word.
-#[derive(Drop)]
+#[derive(Clone, Copy)]
 enum WordNumber {
     Key,
     Slope,
