@@ -163,4 +163,4 @@ bounded_far {b} R x i l far =
     false_of (bounded b x)
     (λ e.
     let w = (bounded_true b x e).windows i l in
-    ⊎_elim (λ h. below (word b i).lower (time x i) h w.0) (λ h. beyond (word b i).upper (time x i) (R.Each-word i l).upper h w.1) far)
+    ⊎_elim (λ h. below (word b i).lower (time x i) h w.0) (λ h. beyond (word b i).upper (time x i) (R.each_word i l).upper h w.1) far)

@@ -32,10 +32,10 @@ zeros n = sym (tab-all nan n (filled n f0) (length-filled n f0)) ∙ tab-same n 
     from-zero = unfold of_int of_bits in refl
 
 -- ---- a number in its range loses nothing as a float
-pub in_float : (z : ℤ) → z ≼ 8388608 → T (in_float binary64 z)
+pub in_float_lem : (z : ℤ) → z ≼ 8388608 → T (in_float binary64 z)
 unfolding in_float
-in_float (pos n) h = le→leb n _ (le_trans h.size (lit≤ tt))
-in_float (negsuc n) h = lt→ltb n _ (le_trans h.size (lit≤ tt))
+in_float_lem (pos n) h = le→leb n _ (le_trans h.size (lit≤ tt))
+in_float_lem (negsuc n) h = lt→ltb n _ (le_trans h.size (lit≤ tt))
 
 -- ---- pair k, as the code reads it
 module _ {l : Pairs} (F : Filled l) {k : ℕ} (h : k < l.count) where

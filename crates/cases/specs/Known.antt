@@ -37,20 +37,20 @@ abbrev pub case : ℕ → Value → Value → Case
 case n f s = record { label = n; found = f; said = s }
 
 -- "that block": the known one, with another cap, and an anchor of coefficient 1
-abbrev one : List Item
+abbrev pub one : List Item
 one = record { word = 0; coef = pos 1 } ∷ []
 
-abbrev anchored : List Word → ℕ → ℕ → Block
+abbrev pub anchored : List Word → ℕ → ℕ → Block
 anchored w c v = record { words = w; tempos = known.tempos; anchors = record { value = pos v; list = one } ∷ []; spans = []; cap = c }
 
 -- "Window 5..5, key 5"
-abbrev five : Word
+abbrev pub five : Word
 five = record { lower = 5; upper = 5; key = 5; start = 5; slope = 0 }
 
-abbrev plan : ℕ → List ℤ
+abbrev pub plan : ℕ → List ℤ
 plan t = pos t ∷ []
 
-abbrev prices : List ℤ → ℕ → Prices
+abbrev pub prices : List ℤ → ℕ → Prices
 prices a c = record { anchors = a; spans = []; cap = c }
 
 abbrev pub table : List Case
@@ -81,14 +81,3 @@ table =
     ∷ case 8 (truth (afresh (joining held_five listed_six) (length listed_six))) (truth false)
     ∷ case 8 (truth (afresh (joining held_five listed_five) (length listed_five))) (truth true)
     ∷ []
-
-pub P : map (λ c. c.found) table ≡ map (λ c. c.said) table
-unfolding fold all both pick Σ minℤ maxℤ sum_of move moves bend square_of squares bends cost window_kept windows_kept
-    coef_of slope_of g anchor_part span_part h line candidates least_from least word_gap word_gap_of word_gaps values ends gap from_to keeps
-P = rw (known-read, P5-accepted, P5-refused, P6-refused, P7.0, P7.1, P7.2, P8.0, P8.1)
-
--- (P4) by the definition: the row's test is true, so the plan keeps the block
-pub P4-keeps : Keeps (anchored (five ∷ []) 10 5) (plan 5)
-P4-keeps =
-    let row : truth (keeps (anchored (five ∷ []) 10 5) (plan 5)) ≡ truth true = ap (λ l. get_or l 6 (truth true)) P in
-    keeps_true (anchored (five ∷ []) 10 5) (plan 5) (cc)

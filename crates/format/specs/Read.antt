@@ -59,7 +59,7 @@ len r = u16_at r 1
 abbrev pub body : List ℕ → List ℕ
 body r = take (len r) (drop 3 r)
 
--- "signed 32_bit in the file unless said": two's complement, where `half` is the first number that stands for a negative one
+-- "signed 32-bit in the file unless said": two's complement, where `half` is the first number that stands for a negative one
 unfoldable pub signed : (half n : ℕ) → ℤ
 signed half n = pick (ltb n half) (pos n) (pos n -ℤ pos (half + half))
 

@@ -1,7 +1,6 @@
 -- qp.rs, a pass of `solve_piecewise_in_units`: the step on the free variables `solved`, from the factor kept across iterations where Q is positive
 -- definite on them, and otherwise, or if that misses, from the eigendecomposition. Q is the whole problem's, n by n.
 use Rattle.std.specs.Prelude.{ℕ, List, length, Float}
-use Rattle.std.proofs.Math.Option as Option
 use Rattle.std.proofs.Math.Option.{Option}
 use Rattle.factoring.specs.Kept.{Kept, Factor, factor, reset, update, kept_of}
 use Rattle.scaled.specs.System.{System, system}

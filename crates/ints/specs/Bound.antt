@@ -13,7 +13,7 @@ infix 5 ◌≼◌
 pub record ◌≼◌ (z : ℤ) (n : ℕ) : Type 0 where
   pub size : nat_abs z ≤ n
 
-infixl 6 ◌+b◌ ◌_b◌
+infixl 6 ◌+b◌ ◌-b◌
 infixl 7 ◌*b◌
 plus : (x y : ℤ) → nat_abs (x +ℤ y) ≤ nat_abs x + nat_abs y
 plus = split _ λ a b. split _ λ c d. simp diff (omega arith)
@@ -34,8 +34,8 @@ times (negsuc a) (negsuc b) = refl
 pub ◌+b◌ : {x y : ℤ} {a b : ℕ} → x ≼ a → y ≼ b → (x +ℤ y) ≼ (a + b)
 ◌+b◌ {x} {y} p q = record { size = omega (arith, plus x y, p.size, q.size) }
 
-pub ◌_b◌ : {x y : ℤ} {a b : ℕ} → x ≼ a → y ≼ b → (x -ℤ y) ≼ (a + b)
-◌_b◌ {x} {y} p q = record { size = omega (arith, minus x y, p.size, q.size) }
+pub ◌-b◌ : {x y : ℤ} {a b : ℕ} → x ≼ a → y ≼ b → (x -ℤ y) ≼ (a + b)
+◌-b◌ {x} {y} p q = record { size = omega (arith, minus x y, p.size, q.size) }
 
 pub ◌*b◌ : {x y : ℤ} {a b : ℕ} → x ≼ a → y ≼ b → (x *ℤ y) ≼ (a * b)
 ◌*b◌ {x} {y} p q = record { size = le_trans (le_of_eq (times x y)) (mul-le-mul p.size q.size) }

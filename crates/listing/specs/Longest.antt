@@ -77,7 +77,7 @@ module _ {b : Block} (R : Ranged b) {x : List ℤ} (X : Timed (length b.words) x
   unfolding word_lines
   words-are zero h = zero-le
   words-are (suc n) h =
-      let w = word_line-is n (word b n).key (time x n) (omega (arith, R.words)) (omega (arith, (R.Each-word n h).key))
+      let w = word_line-is n (word b n).key (time x n) (omega (arith, R.words)) (omega (arith, (R.each_word n h).key))
       (omega (arith, X.small n h)) in
       omega (arith, words-are n (omega arith), length-append (word_lines n b x) (word_line n (word b n).key (time x n)), w.most)
 

@@ -66,7 +66,7 @@ module _ {indices solved : List ℕ} (originals n : ℕ) (state : List Spot) (wi
           solved_are = rw (lead, free, free-chosen n state) (SlackRows.split-solved n m originals first room _ within e entries);
           slacks_are =
               rw (rest, lead_length originals indices lead, free, free-chosen n state)
-              (SlackRows.split_rows n m originals first room _ within few (omega arith));
+              (SlackRows.split-rows n m originals first room _ within few (omega arith));
         }
 
 -- ---- what the calls give

@@ -37,7 +37,7 @@ module _ {b : Block} (R : Ranged b) where
         small = λ i h.
             let j : i < length b.words = omega arith in
             let w = (bounded_true b x e).windows i j in
-            in_range_lem (word b i).upper (time x i) (from-lower (word b i).lower (time x i) w.0) w.1 (R.Each-word i j).upper;
+            in_range_lem (word b i).upper (time x i) (from-lower (word b i).lower (time x i) w.0) w.1 (R.each_word i j).upper;
       }
 
   -- ---- what is written of an answer of the engine

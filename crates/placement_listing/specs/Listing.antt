@@ -2,7 +2,6 @@
 use Rattle.std.specs.Prelude.{List, ℕ}
 use Rattle.block.specs.Block.{Block}
 use Rattle.listing.specs.Listing.{plan, refused}
-use Rattle.placement.specs.Placed as Placed
 use Rattle.placement.specs.Placed.{Placed}
 
 unfoldable pub of_placed : Block → Placed → List ℕ

@@ -1,16 +1,16 @@
 -- What a plan and prices that are not refused keep; the check by its cases.
-use Rattle.std.specs.Prelude.{◌≡◌, Bool, true, false, List, ℕ, zero, suc, ◌+◌, ◌-◌, ◌≤◌, eqb, length, ℤ, pos, negsuc, neg_ℤ, nat_abs, ◌+ℤ◌, ◌-ℤ◌, ◌*ℤ◌, ◌≤ℤ◌}
+use Rattle.std.specs.Prelude.{◌≡◌, Bool, true, false, List, ℕ, zero, suc, ◌+◌, ◌≤◌, eqb, length, ℤ, pos, negsuc, neg_ℤ, nat_abs, ◌+ℤ◌, ◌-ℤ◌, ◌*ℤ◌, ◌≤ℤ◌}
 use Rattle.std.proofs.Math.Path.{refl, ap}
 use Rattle.std.proofs.Common.{sym, ◌∙◌, ap₂, subst, arith, le_trans, leb→le, lit≤}
 use Rattle.std.specs.Int.Signed.{le_z}
 use borrow.Author.Tests.{le-leb, eq-eqb, ne_eqb, eqb-true}
-use Rattle.folds.specs.Fold.{all, all-at, both, both-on, both_stop, both_true, pick, pick_true, pick_false}
+use Rattle.folds.specs.Fold.{all-at, both, both-on, both_stop, both_true, pick, pick_true, pick_false}
 use Rattle.ints.specs.Diff.{diff, split, le_z_true}
 use Rattle.ints.specs.Bound.{◌≼◌, loose}
 use Rattle.block.specs.Block.{Block}
 use Rattle.block.specs.Plan.{time, cost}
 use Rattle.block.specs.Finer.{cost_over}
-use Rattle.block.specs.Gap.{Prices, price, gap}
+use Rattle.block.specs.Gap.{price, gap}
 use Rattle.block.specs.Ranges.{max_time, max_price, Ranged}
 use Rattle.block.specs.CostBound.{cost-bound, cost-bound-over}
 use Rattle.block.specs.Fits.{gap-b}

@@ -1,6 +1,6 @@
 -- Laws of the definitions: what a decomposition that was found gives, and one that was not.
 use Rattle.std.specs.Prelude.{◌≡◌, Bool, true, false, List, ℕ, ◌*◌, take, Float}
-use Rattle.std.proofs.Common.{sym, ◌∙◌}
+use Rattle.std.proofs.Common.{◌∙◌}
 use Rattle.folds.specs.Fold.{pick}
 use Rattle.eigen.specs.Eigen.{given, symmetric_eigen}
 use Rattle.eigen.specs.Laws.{given-eigen, given-nothing}

@@ -21,23 +21,23 @@ module _ {b : Block} (R : Ranged b) where
 
   pub whole-keys : (i : ℕ) → i < n → Whole (at (keys b) i) (pos (word b i).key)
   unfolding keys
-  whole-keys i l = whole-word (λ w. w.key) b i l (R.Each-word i l).key tt
+  whole-keys i l = whole-word (λ w. w.key) b i l (R.each_word i l).key tt
 
   pub whole-slopes : (i : ℕ) → i < n → Whole (at (slopes b) i) (pos (word b i).slope)
   unfolding slopes
-  whole-slopes i l = whole-word (λ w. w.slope) b i l (R.Each-word i l).slope tt
+  whole-slopes i l = whole-word (λ w. w.slope) b i l (R.each_word i l).slope tt
 
   pub whole-lowers : (i : ℕ) → i < n → Whole (at (lowers b) i) (pos (word b i).lower)
   unfolding lowers
-  whole-lowers i l = whole-word (λ w. w.lower) b i l (R.Each-word i l).lower tt
+  whole-lowers i l = whole-word (λ w. w.lower) b i l (R.each_word i l).lower tt
 
   pub whole-uppers : (i : ℕ) → i < n → Whole (at (uppers b) i) (pos (word b i).upper)
   unfolding uppers
-  whole-uppers i l = whole-word (λ w. w.upper) b i l (R.Each-word i l).upper tt
+  whole-uppers i l = whole-word (λ w. w.upper) b i l (R.each_word i l).upper tt
 
   pub whole-starts : (i : ℕ) → i < n → Whole (at (starts b) i) (pos (word b i).start)
   unfolding starts
-  whole-starts i l = whole-word (λ w. w.start) b i l (R.Each-word i l).start tt
+  whole-starts i l = whole-word (λ w. w.start) b i l (R.each_word i l).start tt
 
   pub whole-cap : Whole (cap b) (pos b.cap)
   unfolding cap
