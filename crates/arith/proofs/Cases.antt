@@ -32,11 +32,11 @@ pub ne_nan : (x : Float) → ne x x ≡ is_nan x
 unfolding ne
 ne_nan x = rw eq_self (not-not (is_nan x))
 
-pub is_nan : (x : Float) → is_nan x ≡ true → x ≡ nan
+pub is_nan_lem : (x : Float) → is_nan x ≡ true → x ≡ nan
 unfolding is_nan
-is_nan nan p = refl
-is_nan (inf s) p = absurd (true≢false (sym p))
-is_nan (fin s m e) p = absurd (true≢false (sym p))
+is_nan_lem nan p = refl
+is_nan_lem (inf s) p = absurd (true≢false (sym p))
+is_nan_lem (fin s m e) p = absurd (true≢false (sym p))
 
 -- ---- infinities
 pub below_inf : (x : Float) → lt x infinity ≡ true → lt (inf true) x ≡ is_finite x

@@ -1,6 +1,0 @@
-use Rattle.folds.specs.Kit.{needs}
-use Rattle.answer.proofs.has_room.Statement.{statement}
-use Rattle.answer.proofs.has_room.Tie as tie
-
-pub has-room-spec : {M : Type 1} → statement M
-has-room-spec = tie.close (tie.spec (λ c κs. search needs) (λ c. rw c.file-size.ensures))

@@ -1,0 +1,16 @@
+use Rattle.folds.specs.Kit.{◌≡◌, ◌-◌, ◌≤◌, fold, kit}
+use Rattle.arith.specs.Float.{f0}
+use Rattle.eigen.specs.Eigen.{off_row, off_diagonal}
+use Rattle.eigen.proofs.off_diagonal.Goals as goal
+
+pub loop-p-init : goal.loop-p-init
+unfolding off_diagonal
+loop-p-init c = search kit
+
+pub loop-p-preserved : goal.loop-p-preserved
+unfolding off_diagonal
+loop-p-preserved c = search kit
+
+pub returns : goal.returns
+unfolding off_diagonal
+returns c = search kit

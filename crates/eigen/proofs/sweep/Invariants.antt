@@ -1,0 +1,7 @@
+use Rattle.folds.specs.Kit.{◌≡◌, ◌-◌, ◌≤◌, arith, length, fold, fold_call, kit}
+use Rattle.folds.specs.Part.{two}
+use Rattle.eigen.specs.Eigen.{sweep_row, sweep}
+use Rattle.eigen.proofs.sweep.Given as goal
+
+abbrev pub invariant-loop-p : goal.invariant-loop-p
+invariant-loop-p l = (l.p ≤ l.n) × (length l.a ≡ length l.initial.a) × (length l.v ≡ length l.initial.v) × (two l.a l.v ≡ fold l.p (sweep_row l.n) (two l.initial.a l.initial.v))

@@ -1,0 +1,8 @@
+use Rattle.folds.specs.Kit.{◌≡◌, ◌+◌, ◌-◌, ◌≤◌, arith, length, rules, span, spans, span_call}
+use Rattle.folds.specs.Part.{two}
+use Rattle.rotation.specs.Rotation.{rotate}
+use Rattle.eigen.specs.Eigen.{sweep_row}
+use Rattle.eigen.proofs.sweep_row.Given as goal
+
+abbrev pub invariant-loop-q : goal.invariant-loop-q
+invariant-loop-q l = (l.p + 1 ≤ l.q) × (l.q ≤ l.n) × (length l.a ≡ length l.initial.a) × (length l.v ≡ length l.initial.v) × (two l.a l.v ≡ span (l.p + 1) l.q (rotate l.n l.p) (two l.initial.a l.initial.v))

@@ -1,0 +1,9 @@
+use mathlib.Core.Path.{◌≡◌}
+use Prim.Native.Nat.{◌≤◌}
+use Rattle.ints.specs.Sum.{Σ}
+use Rattle.block.specs.Plan.{product}
+use Rattle.format.specs.Structs.{list_of}
+use Rattle.exact.proofs.list_sum.Given as goal
+
+abbrev pub invariant-loop-k : goal.invariant-loop-k
+invariant-loop-k l = (l.k ≤ l.l.count) × (l.sum ≡ Σ l.k (product (list_of l.l) l.times))

@@ -1,0 +1,50 @@
+use mathlib.Core.Path.{sym, ◌∙◌}
+use native.Mathlib.Omega.{arith}
+use borrow.Author.Rules.{rules}
+use mir.Syntax.{w64}
+use mir.Val.{of_z}
+use Rattle.ints.specs.Sum.{Σ}
+use Rattle.ints.specs.Bound.{◌≼◌}
+use Rattle.ints.specs.Held.{Held, called, read, Σ-none, Σ-fits, Σ_turn, Σ_end}
+use Rattle.block.specs.Block.{word}
+use Rattle.block.specs.Plan.{time, move}
+use Rattle.block.specs.Laws.{moves-is}
+use Rattle.block.specs.Fits.{move-b, moves-b}
+use Rattle.format.specs.Structs.{block_of}
+use Rattle.format.specs.Entries.{words-length, in_words, word_in}
+use Rattle.exact.specs.Planned.{plan-timed, time_in, timed-at, of-word}
+use Rattle.exact.proofs.moves.Goals as goal
+use Rattle.exact.proofs.moves.Goals.{After-move_of-sum}
+
+module _ (c : After-move_of-sum) where
+  term : Held w64 (of_z w64 c.move_of-sum.result)
+      (move (word (block_of c.args.b) c.loop-i.i) (time c.args.times.now c.loop-i.i)) 524288
+  term =
+      let h = c.loop-i-test.true in
+      called w64 (of-word c.requires h c.time_at.ensures move c.move_of-sum.ensures)
+      (move-b (c.requires.ranged.each_word _ (in_words c.requires.sound h)) (time_in c.requires h)) tt
+
+  so-far-b : Σ c.loop-i.i (λ i. move (word (block_of c.args.b) i) (time c.args.times.now i)) ≼ 16777216
+  so-far-b = moves-b c.requires.ranged (plan-timed c.requires) c.loop-i.i (omega (arith, c.loop-i.invariant.0, words-length c.requires.sound))
+
+pub loop-i-init : goal.loop-i-init
+loop-i-init c = (search rules, (Σ-none _).total)
+
+pub move_of-sum-requires : goal.move_of-sum-requires
+move_of-sum-requires c =
+    let h = c.loop-i-test.true in
+    record {
+      ranged_word = word_in c.requires.sound c.requires.ranged h;
+      t = read (timed-at c.requires h c.time_at.ensures);
+    }
+
+pub overflow_add-sum : goal.overflow_add-sum
+overflow_add-sum c = Σ-fits {s = c.loop-i.sum-bits} (record { total = c.loop-i.invariant.1 }) (so-far-b ((goal.at.overflow_add-sum c).After-move_of-sum)) (term ((goal.at.overflow_add-sum c).After-move_of-sum)) tt
+
+pub loop-i-preserved : goal.loop-i-preserved
+loop-i-preserved c = (search rules, (Σ_turn {s = c.loop-i.sum-bits} (record { total = c.loop-i.invariant.1 }) (so-far-b ((goal.at.loop-i-preserved c).After-move_of-sum)) (term ((goal.at.loop-i-preserved c).After-move_of-sum)) tt).total)
+
+pub returns : goal.returns
+returns c =
+    let n = words-length c.requires.sound in
+    Σ_end {s = c.loop-i.sum-bits} (record { total = c.loop-i.invariant.1 }) _ (omega arith) (omega arith) ∙ sym (moves-is _ _)

@@ -1,0 +1,24 @@
+use borrow.Author.Rules.{rules}
+use Rattle.format.specs.Laws.{choices}
+use Rattle.fields.proofs.count.Goals as goal
+
+pub returns-then-n-eq20 : goal.returns-then-n-eq20
+returns-then-n-eq20 c = (search choices depth 12, search rules)
+
+pub returns-then-t-eq-WORD : goal.returns-then-t-eq-WORD
+returns-then-t-eq-WORD c = (search choices depth 12, search rules)
+
+pub returns-then-t-eq-TEMPO : goal.returns-then-t-eq-TEMPO
+returns-then-t-eq-TEMPO c = (search choices depth 12, search rules)
+
+pub returns-then-t-eq-ANCHOR : goal.returns-then-t-eq-ANCHOR
+returns-then-t-eq-ANCHOR c = (search choices depth 12, search rules)
+
+pub returns-then-t-eq-SPAN : goal.returns-then-t-eq-SPAN
+returns-then-t-eq-SPAN c = (search choices depth 12, search rules)
+
+pub returns-then-n-eq4 : goal.returns-then-n-eq4
+returns-then-n-eq4 c = (search choices depth 12, search rules)
+
+pub returns : goal.returns
+returns c = (search choices depth 12, search rules)

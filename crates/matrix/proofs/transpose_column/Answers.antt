@@ -1,0 +1,12 @@
+use Rattle.folds.specs.Kit.{◌≡◌, ◌-◌, ◌≤◌, arith, length}
+use Rattle.columns.specs.Columns.{cell, put_column}
+use Rattle.columns.specs.Laws.{column_call, column-kit}
+use Rattle.matrix.proofs.transpose_column.Goals as goal
+
+pub loop-i-preserved : goal.loop-i-preserved
+loop-i-preserved c =
+    let at = c.loop-i in
+    (omega arith, omega arith, column_call _ _ _ _ _ at.invariant.2 (rw (c.put.ensures, c.get-v.ensures)))
+
+pub loop-i-init : goal.loop-i-init
+loop-i-init c = search column-kit

@@ -1,0 +1,31 @@
+use Rattle.folds.specs.Kit.{◌≡◌, sym, ap, ◌∙◌, set, length-set, fold_call, rules, kit}
+use Rattle.folds.specs.Fold.{all-none, all_turn}
+use mir.Syntax.{w32}
+use Rattle.arith.specs.Float.{at}
+use Rattle.ints.specs.Held.{called}
+use Rattle.rounding.specs.Lists.{time}
+use Rattle.rounding.specs.Laws.{at_is, off-is, time-small, times-off, times-on}
+use Rattle.rounding.specs.declared.Time.TheVariants.{At}
+use Rattle.rounding.proofs.times_of.Goals as goal
+
+pub loop-i-init : goal.loop-i-init
+loop-i-init c = (search rules, search rules, search kit, all-none _)
+
+pub returns-in_default : goal.returns-in_default
+returns-in_default c = times-off _ _ c.loop-i-test.true (off-is _ (sym c.time_of-t.ensures ∙ c.in_default.is))
+
+pub loop-i-preserved : goal.loop-i-preserved
+loop-i-preserved c =
+    let l = c.loop-i in
+    let told : time (at c.args.x.now l.i) ≡ At c.in-At.n = sym c.time_of-t.ensures ∙ c.in-At.is in
+    let w = at_is _ told in (
+      search rules,
+      simp length-set l.invariant.1,
+      fold_call _ _ _ l.invariant.2 (ap (set l.times l.i) (called w32 w.1 (time-small _ w.0) tt).is),
+      all_turn _ _ l.invariant.3 w.0,
+    )
+
+pub returns : goal.returns
+returns c =
+    let l = c.loop-i in
+    times-on _ l.i _ l.invariant.0 c.loop-i-test.false (search rules) l.invariant.2 l.invariant.3

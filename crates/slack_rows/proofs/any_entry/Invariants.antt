@@ -1,0 +1,9 @@
+use Rattle.folds.specs.Kit.{◌≡◌, false, ◌≤◌, length, some}
+use lib.Ieee.{ne}
+use Rattle.arith.specs.Float.{f0}
+use Rattle.columns.specs.Columns.{cell}
+use Rattle.matrix.specs.Matrix.{index}
+use Rattle.slack_rows.proofs.any_entry.Given as goal
+
+abbrev pub invariant-loop-t : goal.invariant-loop-t
+invariant-loop-t l = (l.t ≤ length l.solved) × (false ≡ some l.t (λ k. ne (cell l.e l.n (index l.solved k) l.j) f0))

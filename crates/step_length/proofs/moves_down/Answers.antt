@@ -1,0 +1,11 @@
+use Rattle.folds.specs.Kit.{kit, both}
+use Rattle.step_length.specs.StepLength.{moves_down}
+use Rattle.step_length.proofs.moves_down.Goals as goal
+
+pub returns-then-d-tolerance : goal.returns-then-d-tolerance
+unfolding moves_down both
+returns-then-d-tolerance c = rw c.if-d-tolerance.true c.is_finite.ensures
+
+pub returns : goal.returns
+unfolding moves_down both
+returns c = rw c.if-d-tolerance.false

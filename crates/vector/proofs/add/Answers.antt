@@ -1,0 +1,16 @@
+use Rattle.folds.specs.Kit.{◌≡◌, ◌-◌, ◌≤◌, length, set, fold, over-kit}
+use Rattle.arith.specs.Float.{fadd, at}
+use Rattle.vector.specs.Vector.{add}
+use Rattle.vector.proofs.add.Goals as goal
+
+pub loop-k-init : goal.loop-k-init
+unfolding add
+loop-k-init c = search over-kit
+
+pub loop-k-preserved : goal.loop-k-preserved
+unfolding add
+loop-k-preserved c = search over-kit
+
+pub returns : goal.returns
+unfolding add
+returns c = search over-kit
