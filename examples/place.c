@@ -1,7 +1,7 @@
 /* Places a block and checks the answer.
  *
- *     rt staticlib capi
- *     cc -O2 examples/place.c -Iinclude target/staticlib/libcapi.a -o target/place
+ *     (cd crates/capi && rt lib) && mkdir -p target
+ *     cc -O2 examples/place.c -Iinclude crates/capi/out/libcapi.a -o target/place
  *     target/place blocks/question.block
  *
  * It prints each word's time, what the plan's gap is, and what places_check makes of the same plan and prices. A refused block prints 'refused' and

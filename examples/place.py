@@ -1,7 +1,7 @@
 """Places a block and checks the answer, from Python.
 
-    rt staticlib capi
-    gcc -shared -o target/libplaces.so -Wl,--whole-archive target/staticlib/libcapi.a -Wl,--no-whole-archive
+    (cd crates/capi && rt lib) && mkdir -p target
+    gcc -shared -o target/libplaces.so -Wl,--whole-archive crates/capi/out/libcapi.a -Wl,--no-whole-archive
     python3 examples/place.py blocks/question.block
 
 It prints what examples/place.c prints, and ends with the same status.

@@ -22,9 +22,9 @@
  *   15 overrun        gap outside signed 64 bits (kept for this; no input gives it)
  *  100 no optimum     the objective falls without end, or no x satisfies the equations
  *
- * Each call says how much stack it needs, measured; all its work memory is there.
+ * Each call says how much stack it needs, measured with the older kit (docs/PORT.md); all its work memory is there.
  *
- * To link it: rt staticlib capi, then cc program.c -Iinclude target/staticlib/libcapi.a
+ * To link it: (cd crates/capi && rt lib), then cc program.c -Iinclude crates/capi/out/libcapi.a
  */
 #ifndef PLACES_H
 #define PLACES_H

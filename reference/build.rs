@@ -1,4 +1,4 @@
-//! Under the feature `library`, finds the static libraries that `rt staticlib` writes.
+//! Under the feature `library`, finds the static libraries that `rt lib` writes in `crates/capi` and `crates/probe`.
 
 use std::path::Path;
 
@@ -8,10 +8,11 @@ fn main() {
         return;
     }
     let manifest = std::env::var("CARGO_MANIFEST_DIR").expect("cargo sets it");
-    let libraries = Path::new(&manifest).join("../target/staticlib");
-    println!("cargo:rustc-link-search=native={}", libraries.display());
+    let crates = Path::new(&manifest).join("../crates");
     for name in ["capi", "probe"] {
-        let library = libraries.join(format!("lib{name}.a"));
+        let out = crates.join(name).join("out");
+        println!("cargo:rustc-link-search=native={}", out.display());
+        let library = out.join(format!("lib{name}.a"));
         println!("cargo:rerun-if-changed={}", library.display());
     }
 }

@@ -105,7 +105,7 @@ def main(argv):
     known = STD | {snake(n) for n in new if "-" not in n and not new[n]} | {snake(n) for n in old if "-" not in n and not old[n]}
     turned = {}
     for n, lemma in new.items():
-        if re.match(r"^[A-Z]", n) or not re.search(r"[A-Z-]", n) and key(n) not in base:
+        if "◌" in n or re.match(r"^[A-Z]", n) or not re.search(r"[A-Z-]", n) and key(n) not in base:
             continue
         turned[n] = spelled(base.get(key(n), n), lemma and old.get(base.get(key(n)), lemma), known)
     turned = {a: b for a, b in turned.items() if a != b}

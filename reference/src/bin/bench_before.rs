@@ -2,7 +2,7 @@
 //! table: `places_solve_kkt` at 1 to 32 variables, `places_place` on blocks of 2 to 32 words. Each
 //! build is a shared object, made of its static library:
 //!
-//!     cc -shared -o after.so -Wl,--whole-archive ../target/staticlib/libcapi.a -Wl,--no-whole-archive
+//!     cc -shared -o after.so -Wl,--whole-archive ../crates/capi/out/libcapi.a -Wl,--no-whole-archive
 //!     cargo run --release --offline --bin bench_before -- ./before.so ./after.so
 
 use reference::bench::{Problem, Table};
