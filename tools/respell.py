@@ -128,11 +128,9 @@ def main(argv):
     count = 0
     for p in files(".", ".antt", ".rt", ".edit"):
         text = read(p)
-        away = foreign(text, own)
-        if os.path.basename(p) == "Proof.antt":
-            away |= {m.group(3) for m in map(HEAD.match, text.splitlines()) if m}
-        if p.endswith(".edit"):
-            away = set()
+        # what the file brings in from elsewhere, and what a proof calls its own steps
+        brought = set() if p.endswith(".edit") else foreign(text, own)
+        steps = {m.group(3) for m in map(HEAD.match, text.splitlines()) if m} if os.path.basename(p) == "Proof.antt" else set()
 
         def turn(m):
             t = m.group(0)
@@ -140,9 +138,9 @@ def main(argv):
             # a name that src/ may have too
             if not re.search(r"[A-Z-]", t) and (before.endswith(".") or not p.endswith(".antt")):
                 return t
-            if before.endswith(("tie.", "goal.")) or t in away and t not in turned or t in away:
-                return camel(t) if t in away and not before.endswith(("tie.", "goal.")) and t not in foreign(text, own) else t
-            return turned.get(t) or camel(t)
+            if before.endswith(("tie.", "goal.")) or t in brought:
+                return t
+            return camel(t) if t in steps else turned.get(t) or camel(t)
 
         after = TOKEN.sub(turn, text)
         if after != text:
