@@ -3,7 +3,7 @@
 -- each part keeps it too, and has fewer floats. Nothing here rests on what a solve gives at an end.
 use Rattle.std.specs.Prelude.{◌≡◌, ◌<◌, true, false, T, Float}
 use Rattle.std.specs.Float.{binary64}
-use Rattle.std.specs.Float.Ieee.{mul, fits, lt, le}
+use Rattle.std.specs.Float.Ieee.{fits, lt, le}
 use Rattle.std.specs.Float.Ieee.Fits.{mul-fits}
 use Rattle.std.specs.Float.Ieee.Bits.{of_bits-fits}
 use Rattle.arith.specs.Float.{f0, f2, fmul}

@@ -5,7 +5,7 @@ use Rattle.std.proofs.Common.{sym, ◌∙◌, ⊎_elim}
 use Rattle.std.proofs.Math.Logic.{inl, inr}
 use borrow.Author.Tests.{not-true}
 use Rattle.std.specs.Float.{nan, inf, fin}
-use Rattle.std.specs.Float.Ieee.{is_nan, neg, lt, eq}
+use Rattle.std.specs.Float.Ieee.{is_nan, lt, eq}
 use Rattle.folds.specs.Fold.{pick, pick_by, both, both_yes, both_true, false_true, false_of}
 use Rattle.arith.specs.Scalar.{is_finite, negative, abs, clamp, max, min, total_less}
 use Rattle.arith.specs.Compare.{lt_irrefl, lt_asym, lt-passes, lt-number, nan_before, nan_after, eq-not, eq-lt, eq-number, eq_trans}

@@ -1,5 +1,6 @@
 pub mod Float
 pub mod Scalar
+pub mod Methods
 pub mod Known
 pub mod Compare
 pub mod Laws

@@ -1,11 +1,11 @@
 -- The order of the floats is the order of their bits, from +0 up to infinity: where x < y, and x is from +0 up, x's bits are below y's (`bits_lt`).
 -- So between two of them lie only so many, and a search that puts a float strictly between its ends has fewer left.
-use Rattle.std.specs.Prelude.{◌≡◌, ℕ, zero, suc, ◌+◌, ◌-◌, ◌*◌, ◌/◌, ◌%◌, ◌^◌, ◌<◌, ◌≤◌, Bool, true, false, not, ◌&&◌, T, ℤ, pos, ◌≢◌, nat_eq, nat_le, nat_lt, refl, Float}
+use Rattle.std.specs.Prelude.{◌≡◌, ℕ, zero, suc, ◌+◌, ◌-◌, ◌*◌, ◌/◌, ◌%◌, ◌^◌, ◌<◌, ◌≤◌, Bool, true, false, not, ◌&&◌, T, ℤ, ◌≢◌, nat_eq, nat_le, nat_lt, refl, Float}
 use Rattle.std.proofs.Common.{sym, ◌∙◌, subst, inl, inr, le_trans, le_of_eq, le_of_lt, lt_of_lt_of_le, lt_of_le_of_lt, eq-or-lt_of_le, zero-add, add_comm, zero-mul, mul_comm, mul_assoc, mul_right_comm, suc-mul, mul-le-mul_right, mul-lt-mul_of_pos_right, lt_of_mul-lt-mul_right, div-mul-le_self, div-lt_iff_lt-mul, le-div_iff_mul-le, arith, ltb-true, ltb-false, lt-ltb, ltb→lt, leb→le, pow-add, pow_pos, shl_lt}
 use Rattle.std.proofs.Math.Path.{ap}
 use Rattle.std.proofs.Math.Nat.{mul-div_cancel}
 use Rattle.std.specs.Float.{nan, inf, fin, Format, binary64}
-use Rattle.std.specs.Float.Ieee.{prec, emax, low, up, down, size, hid, ones, to_bits, fits, is_nan, lt, le}
+use Rattle.std.specs.Float.Ieee.{prec, emax, low, up, down, size, hid, ones, to_bits, fits, is_nan, lt}
 use Rattle.std.specs.Float.Ieee.Digits.{size-lt, size-le, size_reaches}
 use Rattle.std.specs.Float.Ieee.Fits.{down_pos, two, two-le_pos, reach, kept-lt, and_l, and_r}
 use Rattle.std.specs.Float.Ieee.Scale.{overflow}

@@ -10,9 +10,9 @@ use Rattle.std.specs.Float.Ieee.Exact.{HasValue, units_val}
 use Rattle.std.specs.Float.Ieee.Order.{drop, kept}
 use Rattle.std.specs.Float.Ieee.Positive.{num, den}
 use Rattle.std.specs.Float.Ieee.Scale.{grid, overflow}
-use Rattle.folds.specs.Fold.{fold, pick, all, false_true}
+use Rattle.folds.specs.Fold.{pick, false_true}
 use Rattle.root.specs.Closest.{kept-under}
-use Rattle.arith.specs.Float.{fdiv, f0, at}
+use Rattle.arith.specs.Float.{fdiv, f0}
 use Rattle.arith.specs.Scalar.{abs, max, is_finite}
 
 -- ---- a fraction that is at most 1 is finite when rounded

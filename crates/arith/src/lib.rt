@@ -6,76 +6,61 @@ ghost use Rattle.std.specs.Float.{nan as nan_value};
 ghost use Rattle.arith.specs.Float.{fromℕ, infinity as infinity_value};
 ghost use Rattle.arith.specs.Scalar as Scalar;
 
-pub const EPSILON: f64 = 2.220446049250313e-16;
+pub const EPSILON: f64 = f64::EPSILON;
 
-// f64::INFINITY and f64::NAN, which no constant may hold.
 pub fn infinity() -> f64
     ensures { result ≡ infinity_value }
 {
-    1.0 / 0.0
+    f64::INFINITY
 }
 
 pub fn nan() -> f64
     ensures { result ≡ nan_value }
 {
-    0.0 / 0.0
+    f64::NAN
 }
 
 pub fn is_nan(x: f64) -> bool
     ensures { result ≡ is_nan x }
 {
-    x != x
+    x.is_nan()
 }
 
 pub fn is_finite(x: f64) -> bool
     ensures { result ≡ Scalar.is_finite x }
 {
-    if x < 1.0 / 0.0 {
-        return -1.0 / 0.0 < x;
-    }
-    false
+    x.is_finite()
 }
 
 pub fn is_infinite(x: f64) -> bool
     ensures { result ≡ Scalar.is_infinite x }
 {
-    if x == 1.0 / 0.0 {
-        return true;
-    }
-    x == -1.0 / 0.0
+    x.is_infinite()
 }
 
 // The sign bit; false for a NaN, whose bits say nothing.
 pub fn is_negative(x: f64) -> bool
     ensures { result ≡ Scalar.negative x }
 {
-    if x != x {
+    if x.is_nan() {
         return false;
     }
-    f64::to_bits(x) >= 0x8000_0000_0000_0000
+    x.is_sign_negative()
 }
 
 pub fn abs(x: f64) -> f64
     ensures { result ≡ Scalar.abs x }
 {
-    if is_negative(x) {
-        return -x;
-    }
-    x
+    x.abs()
 }
 
 pub fn signum(x: f64) -> f64
     ensures { result ≡ Scalar.signum x }
 {
-    if x != x {
-        return x;
-    }
-    if is_negative(x) {
-        return -1.0;
-    }
-    1.0
+    x.signum()
 }
 
+// Not the method, which asks for min ≤ max.
 pub fn clamp(x: f64, min: f64, max: f64) -> f64
     ensures { result ≡ Scalar.clamp x min max }
 {
@@ -88,10 +73,11 @@ pub fn clamp(x: f64, min: f64, max: f64) -> f64
     x
 }
 
+// Not the method, which leaves open which of two zeros it gives; `min` too.
 pub fn max(a: f64, b: f64) -> f64
     ensures { result ≡ Scalar.max a b }
 {
-    if a != a {
+    if a.is_nan() {
         return b;
     }
     if a < b {
@@ -103,7 +89,7 @@ pub fn max(a: f64, b: f64) -> f64
 pub fn min(a: f64, b: f64) -> f64
     ensures { result ≡ Scalar.min a b }
 {
-    if a != a {
+    if a.is_nan() {
         return b;
     }
     if b < a {
@@ -116,27 +102,18 @@ pub fn min(a: f64, b: f64) -> f64
 pub fn total_less(a: f64, b: f64) -> bool
     ensures { result ≡ Scalar.total_less a b }
 {
-    if b != b {
-        return a == a;
+    if b.is_nan() {
+        return !a.is_nan();
     }
-    if a != a {
+    if a.is_nan() {
         return false;
     }
-    if a < b {
-        return true;
-    }
-    if a == b {
-        if is_negative(a) {
-            return !is_negative(b);
-        }
-        return false;
-    }
-    false
+    a.total_cmp(&b).is_lt()
 }
 
 // n as f64.
 pub fn from_usize(n: usize) -> f64
     ensures { result ≡ fromℕ n }
 {
-    std::num::nearest_u64_to_f64(n as u64)
+    std::num::nearest_usize_to_f64(n)
 }

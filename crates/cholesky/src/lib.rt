@@ -14,6 +14,7 @@ fn rows_dot(a: &[f64], n: usize, i: usize, j: usize) -> f64
     ensures { result ≡ Cholesky.rows_dot j a.now n i j }
 {
     let mut s = 0.0;
+    // By index: two rows of one matrix, whose entries lie a column apart.
     for t in 0..j {
         s = s + columns::get(a, n, n, i, t) * columns::get(a, n, n, j, t);
     }
@@ -32,6 +33,7 @@ fn factor_below(a: &mut [f64], n: usize, j: usize, r: f64)
     ensures { a.new ≡ Cholesky.factor_below n j r a.old }
 {
     columns::put(a, n, n, j, j, r);
+    // By index: an entry is made of two rows, which no slice holds.
     for i in j + 1..n {
         let k = rows_dot(&a[..], n, i, j);
         let v = columns::get(&a[..], n, n, i, j);
@@ -57,6 +59,7 @@ pub fn cholesky(a: &mut [f64], n: usize) -> bool
     requires { n * n ≤ length a.old }
     ensures { out result a.new ≡ Cholesky.cholesky n a.old }
 {
+    // By the column's number: each is made of the columns before it.
     for j in 0..n {
         if !factor_column(a, n, j) {
             return false;
@@ -69,6 +72,7 @@ pub fn positive_definite(l: &[f64], n: usize) -> bool
     requires { n * n ≤ length l.now }
     ensures { result ≡ Cholesky.positive_definite l.now n }
 {
+    // By index: the diagonal of a matrix, which no slice holds.
     for i in 0..n {
         let p = columns::get(l, n, n, i, i);
         if !(p * p >= PIVOT_FLOOR) {

@@ -1,18 +1,18 @@
 -- Laws of the definitions: entries and columns, that only the n * m elements count, one entry written, a matrix written column by column.
-use Rattle.std.specs.Prelude.{◌≡◌, List, length, set, Float}
+use Rattle.std.specs.Prelude.{◌≡◌, List, length, Float}
 use Rattle.std.proofs.Math.Path.{refl}
 use Rattle.std.proofs.Common.{sym, ap, ◌∙◌, ⊎_elim, le_refl, eq-or-lt_of_le, mul-le-mul_right, mul_comm, suc-mul, rules, get_or-set_same}
 use Prim.Native.Nat.{ℕ, zero, suc, ◌+◌, ◌*◌, ◌<◌, ◌≤◌}
 use native.Mathlib.Omega.{arith}
 use Rattle.std.proofs.Math.Seq.{get_or-set_other}
 use Rattle.std.specs.Float.Ieee.{nan}
-use Rattle.folds.specs.Fold.{fold, folds, fold_call, fold_turn, fold_end, fold-same, tab_m, over}
+use Rattle.folds.specs.Fold.{fold, folds, fold_call, fold_turn, fold_end, fold-same, tab, tab_m, over}
 use Rattle.folds.specs.Tab.{length-tab, get_d_tab, get_d_tab_m, tab_m-same, tab_m_flat, tab-all, over_in, over-tab_m}
 use Rattle.folds.specs.Cell.{cell-lt}
 use Rattle.folds.specs.Decide.{lt-or-le}
 use Rattle.arith.specs.Float.{at}
 use Rattle.reductions.specs.Reductions.{amax}
-use Rattle.vector.specs.Laws.{Same}
+use Rattle.vector.specs.Laws.{Same, over_by}
 use Rattle.columns.specs.Columns.{cell, put, column, columns_amax, put_column}
 
 -- ---- columns
@@ -49,6 +49,14 @@ module _ (n m i j : ℕ) (p : i < n) (q : j < m) where
 pub tab_m-all : (n m : ℕ) (g : ℕ → ℕ → Float) (l : List Float) → length l ≡ n * m → ((i j : ℕ) → i < n → j < m → cell l n i j ≡ g i j) → tab_m n m g ≡ l
 tab_m-all n m g l e h =
     tab_m-same n m g (λ i j. cell l n i j) (λ i j p q. sym (h i j p q)) ∙ tab_m_flat n m (at l) ∙ tab-all nan (m * n) l (e ∙ mul_comm n m)
+
+-- a list whose entries are g i j, and whose other elements are o's
+pub over_m_by : (n m : ℕ) (g : ℕ → ℕ → Float) (s o : List Float) → n * m ≤ length o → length s ≡ length o →
+    ((i j : ℕ) → i < n → j < m → cell s n i j ≡ g i j) → ((k : ℕ) → n * m ≤ k → at s k ≡ at o k) → s ≡ over (tab_m n m g) o
+over_m_by n m g s o h e f r =
+    over_by (n * m) (at s) s o h e (λ k _. refl) r
+    ∙ ap (λ l. over l o)
+    (ap (λ k. tab k (at s)) (mul_comm n m) ∙ sym (tab_m_flat n m (at s)) ∙ tab_m-same n m (λ i j. cell s n i j) g f)
 
 -- ---- one entry written
 

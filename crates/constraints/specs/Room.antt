@@ -4,6 +4,7 @@ use Rattle.std.proofs.Common.{le_refl, le_trans, arith}
 use Rattle.std.proofs.Math.Nat.{min-le_right}
 use Rattle.folds.specs.Cell.{area}
 use Rattle.sizes.specs.Sizes as Sizes
+use Rattle.vector.specs.Vector.{Below}
 
 pub record Room (n m : ℕ) (e coefficients range null : List Float) : Type 0 where
   pub few : n ≤ Sizes.originals
@@ -12,6 +13,15 @@ pub record Room (n m : ℕ) (e coefficients range null : List Float) : Type 0 wh
   pub coefficients_room : n * m ≤ length coefficients
   pub range_room : n * m ≤ length range
   pub null_room : n * n ≤ length null
+
+-- what Y, T and the pivots hold, of the rank
+pub record Held (n m rank : ℕ) (range coefficients : List Float) (pivots : List ℕ) : Type 0 where
+  pub columns : m ≤ Sizes.columns
+  pub rank_few : rank ≤ min n m
+  pub range_holds : n * rank ≤ length range
+  pub coefficients_hold : min n m * m ≤ length coefficients
+  pub pivots_hold : rank ≤ length pivots
+  pub below : Below rank pivots m
 
 -- a matrix of min n m rows or columns is not larger
 pub rows_fit : {p : ℕ} (n m : ℕ) → p ≡ min n m → p * m ≤ n * m

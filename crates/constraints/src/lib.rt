@@ -5,13 +5,15 @@
 ghost use Rattle.std.specs.Prelude.{◌≡◌, false, ◌≤◌, ◌<◌, ◌+◌, ◌-◌, ◌*◌, min, length, take};
 ghost use Rattle.folds.specs.Fold.{fold, tab, over};
 ghost use Rattle.sizes.specs.Sizes as Sizes;
-ghost use Rattle.vector.specs.Vector.{Below};
-ghost use Rattle.columns.specs.Columns as Columns;
 ghost use Rattle.pivoting.specs.Pivoting.{Taken};
 ghost use Rattle.constraints.specs.Constraints as Definition;
 ghost use Rattle.constraints.specs.Room.{Room};
 
 use pivoting::Pivots;
+
+pub mod parts;
+
+pub use parts::Constraints;
 
 // Qᵀ, of the reflections that `range` makes; `made` starts as false.
 fn q_transpose_in(
@@ -59,25 +61,12 @@ fn q_transpose(range: &[f64], n: usize, rank: usize, room: &mut [f64], q: &mut [
     );
 }
 
-fn rows_transposed_column(q: &[f64], n: usize, rank: usize, d: usize, j: usize, z: &mut [f64])
-    requires { (n * n ≤ length q.now) × (rank + d ≡ n) × (j < d) × (n * d ≤ length z.old) }
-    ensures { z.new
-        ≡ Columns.put_column n n j (λ i. Columns.cell q.now n (rank + j) i) z.old }
-{
-    for i in 0..n {
-        let v = columns::get(q, n, n, rank + j, i);
-        columns::put(z, n, d, i, j, v);
-    }
-}
-
 // `q.rows(rank, d).transpose()`, with d = n - rank.
 fn rows_transposed(q: &[f64], n: usize, rank: usize, d: usize, z: &mut [f64])
     requires { (n * n ≤ length q.now) × (rank + d ≡ n) × (n * d ≤ length z.old) }
     ensures { z.new ≡ over (Definition.rows_transposed n rank d q.now) z.old }
 {
-    for j in 0..d {
-        rows_transposed_column(q, n, rank, d, j, z);
-    }
+    columns::write_entries(z, n, d, |i, j, _| columns::get(q, n, n, rank + j, i));
 }
 
 // `null -= &range * (range.transpose() * &null)`; the products stand in `part` and `spanned`.
@@ -199,7 +188,7 @@ fn new_in(
         ≡ Definition.new n m e.now }
     ensures taken { Taken (min n m) m result }
 {
-    let p = pivot_choice::smaller_of(n, m);
+    let p = n.min(m);
     let entries = n * m;
     let t = p * m;
     let y = n * p;
@@ -218,7 +207,8 @@ fn new_in(
     pivots
 }
 
-fn new_small(
+// In work memory of TALL and SQUARE numbers.
+fn new_within<const TALL: usize, const SQUARE: usize>(
     e: &[f64],
     n: usize,
     m: usize,
@@ -226,35 +216,21 @@ fn new_small(
     range: &mut [f64],
     null: &mut [f64],
 ) -> Pivots
-    requires { Room n m e.now coefficients.old range.old null.old × (n ≤ Sizes.few) × (m ≤ Sizes.few) }
+    requires { Room n m e.now coefficients.old range.old null.old
+        × (n * m ≤ TALL)
+        × (n * n ≤ SQUARE)
+        × (TALL ≤ Sizes.originals * Sizes.columns)
+        × (SQUARE ≤ Sizes.originals * Sizes.originals) }
     ensures result_after { Definition.constraints_of n m range.new null.new coefficients.new result
         ≡ Definition.new n m e.now }
     ensures taken { Taken (min n m) m result }
 {
-    let mut left = [0.0; sizes::SMALL];
-    let mut q = [0.0; sizes::SMALL];
+    let mut left = [0.0; TALL];
+    let mut q = [0.0; SQUARE];
     new_in(e, n, m, &mut left, coefficients, range, &mut q, null)
 }
 
-fn new_large(
-    e: &[f64],
-    n: usize,
-    m: usize,
-    coefficients: &mut [f64],
-    range: &mut [f64],
-    null: &mut [f64],
-) -> Pivots
-    requires { Room n m e.now coefficients.old range.old null.old }
-    ensures result_after { Definition.constraints_of n m range.new null.new coefficients.new result
-        ≡ Definition.new n m e.now }
-    ensures taken { Taken (min n m) m result }
-{
-    let mut left = [0.0; sizes::TALL];
-    let mut q = [0.0; sizes::SQUARE];
-    new_in(e, n, m, &mut left, coefficients, range, &mut q, null)
-}
-
-// The same in work memory of its size.
+// In work memory of its size.
 pub fn new(
     e: &[f64],
     n: usize,
@@ -268,70 +244,46 @@ pub fn new(
         ≡ Definition.new n m e.now }
     ensures taken { Taken (min n m) m result }
 {
-    if n <= sizes::FEW {
-        if m <= sizes::FEW {
-            return new_small(e, n, m, coefficients, range, null);
-        }
+    if n <= sizes::FEW && m <= sizes::FEW {
+        return new_within::<{ sizes::SMALL }, { sizes::SMALL }>(e, n, m, coefficients, range, null);
     }
-    new_large(e, n, m, coefficients, range, null)
+    new_within::<{ sizes::TALL }, { sizes::SQUARE }>(e, n, m, coefficients, range, null)
 }
 
 // The smallest x with Eᵀx = b on the pivot columns: x = Yu.
-pub fn smallest_feasible(
-    range: &[f64],
-    coefficients: &[f64],
-    n: usize,
-    m: usize,
-    b: &[f64],
-    pivots: &[usize],
-    rank: usize,
-) -> [f64; sizes::VARIABLES]
-    requires { (n * rank ≤ length range.now)
-        × (min n m * m ≤ length coefficients.now)
-        × (m ≤ length b.now)
-        × (rank ≤ length pivots.now)
-        × (rank ≤ min n m)
-        × Below rank pivots.now m
-        × (n ≤ Sizes.originals)
-        × (m ≤ Sizes.columns) }
-    ensures { take n result
-        ≡ Definition.smallest_feasible n m range.now coefficients.now b.now pivots.now rank }
+pub fn smallest_feasible(of: &Constraints, b: &[f64]) -> [f64; sizes::VARIABLES]
+    requires { (of.now.n ≤ Sizes.originals) × (of.now.m ≤ length b.now) }
+    ensures { take of.now.n result
+        ≡ Definition.smallest_feasible of.now.n of.now.m of.now.range.now of.now.coefficients.now b.now
+        of.now.pivots.now of.now.rank }
 {
+    let n = of.n;
+    let m = of.m;
+    let rank = of.rank;
     let mut u = [0.0; sizes::COLUMNS];
-    let p = pivot_choice::smaller_of(n, m);
-    substitution::forward(coefficients, p, m, b, pivots, rank, &mut u[..rank]);
-    dense::mul_vec(range, n, rank, &u[..rank])
+    let p = n.min(m);
+    substitution::forward(of.coefficients, p, m, b, of.pivots, rank, &mut u[..rank]);
+    dense::mul_vec(of.range, n, rank, &u[..rank])
 }
 
 // The λ that best solves Eλ = g: Tλ = Yᵀg on the pivot columns, by back substitution, with zero for dependent columns.
-pub fn multipliers(
-    range: &[f64],
-    coefficients: &[f64],
-    n: usize,
-    m: usize,
-    g: &[f64],
-    pivots: &[usize],
-    rank: usize,
-) -> [f64; sizes::COLUMNS]
-    requires { (n * rank ≤ length range.now)
-        × (min n m * m ≤ length coefficients.now)
-        × (n ≤ length g.now)
-        × (rank ≤ length pivots.now)
-        × (rank ≤ min n m)
-        × Below rank pivots.now m
-        × (m ≤ Sizes.columns) }
-    ensures { take m result
-        ≡ Definition.multipliers n m range.now coefficients.now g.now pivots.now rank }
+pub fn multipliers(of: &Constraints, g: &[f64]) -> [f64; sizes::COLUMNS]
+    requires { of.now.n ≤ length g.now }
+    ensures { take of.now.m result
+        ≡ Definition.multipliers of.now.n of.now.m of.now.range.now of.now.coefficients.now g.now
+        of.now.pivots.now of.now.rank }
 {
+    let m = of.m;
+    let rank = of.rank;
     let mut lambda = [0.0; sizes::COLUMNS];
-    let p = pivot_choice::smaller_of(n, m);
-    let h = dense::tr_mul_vec(range, n, rank, g);
+    let p = of.n.min(m);
+    let h = dense::tr_mul_vec(of.range, of.n, rank, g);
     substitution::backward(
-        coefficients,
+        of.coefficients,
         p,
         m,
         &h[..rank],
-        pivots,
+        of.pivots,
         rank,
         &mut lambda[..m],
     );

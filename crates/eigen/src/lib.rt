@@ -4,7 +4,6 @@
 ghost use Rattle.std.specs.Prelude.{◌≡◌, ◌≤◌, ◌<◌, ◌*◌, length};
 ghost use Rattle.folds.specs.Fold.{out, over};
 ghost use Rattle.folds.specs.Part.{two};
-ghost use Rattle.columns.specs.Columns as Columns;
 ghost use Rattle.matrix.specs.Matrix as Matrix;
 ghost use Rattle.eigen.specs.Eigen as Eigen;
 ghost use Rattle.eigen.specs.Products.{Finite};
@@ -16,6 +15,7 @@ fn sweep_row(a: &mut [f64], v: &mut [f64], n: usize, p: usize)
     requires { (n * n ≤ length a.old) × (n * n ≤ length v.old) × (p < n) }
     ensures { two a.new v.new ≡ Eigen.sweep_row n p (two a.old v.old) }
 {
+    // By index: p and q number rows and columns at once.
     for q in p + 1..n {
         rotation::rotate(a, v, n, p, q);
     }
@@ -25,6 +25,7 @@ fn sweep(a: &mut [f64], v: &mut [f64], n: usize)
     requires { (n * n ≤ length a.old) × (n * n ≤ length v.old) }
     ensures { two a.new v.new ≡ Eigen.sweep n (two a.old v.old) }
 {
+    // By index: p numbers a row and a column at once.
     for p in 0..n {
         sweep_row(a, v, n, p);
     }
@@ -35,6 +36,7 @@ fn off_row(a: &[f64], n: usize, p: usize, sum: f64) -> f64
     ensures { result ≡ Eigen.off_row n a.now p sum }
 {
     let mut s = sum;
+    // By index: p and q number rows and columns at once.
     for q in p + 1..n {
         let apq = columns::get(a, n, n, p, q);
         s = s + apq * apq;
@@ -47,6 +49,7 @@ fn off_diagonal(a: &[f64], n: usize) -> f64
     ensures { result ≡ Eigen.off_diagonal n a.now }
 {
     let mut s = 0.0;
+    // By index: p numbers a row and a column at once.
     for p in 0..n {
         s = off_row(a, n, p, s);
     }
@@ -71,15 +74,11 @@ fn sweeps(a: &mut [f64], v: &mut [f64], n: usize, tolerance: f64) -> bool
     false
 }
 
-fn symmetric_column(r: &[f64], n: usize, j: usize, a: &mut [f64])
-    requires { (n * n ≤ length r.now) × (n * n ≤ length a.old) × (j < n) }
-    ensures { a.new ≡ Columns.put_column n n j (λ i. Eigen.mean n r.now i j) a.old }
+fn mean(r: &[f64], n: usize, i: usize, j: usize) -> f64
+    requires { (n * n ≤ length r.now) × (i < n) × (j < n) }
+    ensures { result ≡ Eigen.mean n r.now i j }
 {
-    for i in 0..n {
-        let rij = columns::get(r, n, n, i, j);
-        let rji = columns::get(r, n, n, j, i);
-        columns::put(a, n, n, i, j, (rij + rji) * 0.5);
-    }
+    (columns::get(r, n, n, i, j) + columns::get(r, n, n, j, i)) * 0.5
 }
 
 // a = (r + rᵀ) / 2.
@@ -87,9 +86,7 @@ fn symmetric(r: &[f64], n: usize, a: &mut [f64])
     requires { (n * n ≤ length r.now) × (n * n ≤ length a.old) }
     ensures { a.new ≡ over (Eigen.symmetric n r.now) a.old }
 {
-    for j in 0..n {
-        symmetric_column(r, n, j, a);
-    }
+    columns::write_entries(a, n, n, |i, j, _| mean(r, n, i, j));
 }
 
 // a becomes what the sweeps start from, v the identity. r = VᵀAV over the scale: with V the identity and finite quotients
@@ -109,9 +106,7 @@ fn eigenvalues(a: &[f64], n: usize, scale: f64, values: &mut [f64])
     requires { (n * n ≤ length a.now) × (n ≤ length values.old) }
     ensures { values.new ≡ over (Eigen.values n a.now scale) values.old }
 {
-    for i in 0..n {
-        values[i] = columns::get(a, n, n, i, i) * scale;
-    }
+    vector::write_each(values, n, |i, _| columns::get(a, n, n, i, i) * scale);
 }
 
 fn jacobi(
@@ -167,8 +162,8 @@ pub fn range(values: &[f64], n: usize, cutoff: f64, list: &mut [usize]) -> usize
         (list.new ≡ over (Eigen.range n values.now cutoff) list.old) }
 {
     let mut m = 0;
-    for k in 0..n {
-        m = vector::push_if(values[k] > cutoff, k, m, list);
+    for (k, value) in values[..n].iter().enumerate() {
+        m = vector::push_if(*value > cutoff, k, m, list);
     }
     m
 }
@@ -180,8 +175,8 @@ pub fn null(values: &[f64], n: usize, cutoff: f64, list: &mut [usize]) -> usize
         (list.new ≡ over (Eigen.null n values.now cutoff) list.old) }
 {
     let mut m = 0;
-    for k in 0..n {
-        m = vector::push_if(!(values[k] > cutoff), k, m, list);
+    for (k, value) in values[..n].iter().enumerate() {
+        m = vector::push_if(!(*value > cutoff), k, m, list);
     }
     m
 }

@@ -2,7 +2,7 @@
 // Q is n by n; only its first `originals` variables are held or listed, in rising order. While the held set changes it is a mark for each of them.
 #![tactic(auto)]
 
-ghost use Rattle.std.specs.Prelude.{◌≡◌, false, ◌≤◌, ◌<◌, length};
+ghost use Rattle.std.specs.Prelude.{◌≡◌, true, false, ◌≤◌, ◌<◌, length, MatchOption};
 ghost use Rattle.folds.specs.Fold.{out, over};
 ghost use Rattle.folds.specs.Marks as Marks;
 ghost use Rattle.variable_set.specs.Rising.{Rising};
@@ -56,13 +56,7 @@ fn joined(
     next
 }
 
-// Whether a factor's pivots pass, and the marks of its variables.
-#[derive(Drop)]
-struct Turn {
-    ok: bool,
-    marks: [bool; sizes::ORIGINALS],
-}
-
+// With variable i, where it is wanted; None where a pivot then fails.
 fn join_one(
     s: [bool; sizes::ORIGINALS],
     l: &mut [f64],
@@ -72,24 +66,24 @@ fn join_one(
     wanted: [bool; sizes::ORIGINALS],
     i: usize,
     room: &mut [f64],
-) -> Turn
+) -> Option<[bool; sizes::ORIGINALS]>
     requires { Block n originals q.now × Room originals l.old room.old × (i < originals) }
-    ensures { out result.ok (held result.marks l.new)
-        ≡ Held.join_one q.now n originals wanted i (held s l.old) }
+    ensures { MatchOption result
+        ((m : _) × (out false (held m l.new) ≡ Held.join_one q.now n originals wanted i (held s l.old)))
+        (λ m. out true (held m l.new) ≡ Held.join_one q.now n originals wanted i (held s l.old)) }
 {
     if wanted[i] {
         if s[i] {
-            return Turn { ok: true, marks: s };
+            return Some(s);
         }
         let next = joined(s, l, q, n, originals, i, room);
         let k = variable_set::place(next, originals);
-        let ok = cholesky::positive_definite(&l[..], k);
-        return Turn {
-            ok: ok,
-            marks: next,
-        };
+        if cholesky::positive_definite(&l[..], k) {
+            return Some(next);
+        }
+        return None;
     }
-    Turn { ok: true, marks: s }
+    Some(s)
 }
 
 // Each wanted variable that is not held joins, the first first, until a pivot fails.
@@ -107,11 +101,11 @@ fn joins(
         ≡ Held.factor_of (Held.joins q.now n originals wanted (held start l.old)) }
 {
     let mut s = start;
+    // By the variable's number, which is asked for in the sets of before and after.
     for i in 0..originals {
-        let turn = join_one(s, l, q, n, originals, wanted, i, room);
-        s = turn.marks;
-        if !turn.ok {
-            return false;
+        match join_one(s, l, q, n, originals, wanted, i, room) {
+            Some(next) => s = next,
+            None => return false,
         }
     }
     true

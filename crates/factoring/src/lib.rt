@@ -29,9 +29,8 @@ fn contains_all(indices: &[usize], s: &[usize]) -> bool
     ensures { result ≡ Kept.contains_all indices.now s.now }
 {
     let listed = variable_set::marks(indices);
-    for t in 0..s.len() {
-        let i = s[t];
-        if !listed[i] {
+    for i in s {
+        if !listed[*i] {
             return false;
         }
     }

@@ -23,6 +23,7 @@ fn reflect_columns(v: &[f64], a: &mut [f64], n: usize, m: usize, k: usize, lo: u
     ensures { a.new ≡ Householder.reflect_columns n k lo m v.now a.old }
 {
     let w = reductions::dot(v, v, v.len());
+    // By the column's number: each is lent from one slice, to be written.
     for j in lo..m {
         let b = k + j * n;
         let e = n + j * n;
@@ -34,8 +35,8 @@ fn zero_column(x: &[f64], h: usize) -> bool
     requires { h ≤ length x.now }
     ensures { result ≡ Householder.zero_column h x.now }
 {
-    for i in 0..h {
-        if x[i] != 0.0 {
+    for v in &x[..h] {
+        if *v != 0.0 {
             return false;
         }
     }
@@ -100,6 +101,7 @@ pub fn qr(a: &mut [f64], n: usize, m: usize, made: &mut [bool])
     requires { (n * m ≤ length a.old) × (m ≤ n) × (n ≤ 48) × (m ≤ length made.old) }
     ensures { two a.new made.new ≡ Householder.qr n m (two a.old made.old) }
 {
+    // By the step's number: each reads what the steps before it wrote.
     for k in 0..m {
         made[k] = qr_column(a, n, m, k);
     }
@@ -121,6 +123,7 @@ pub fn q_tr_mul(a: &[f64], n: usize, m: usize, made: &[bool], b: &mut [f64], p: 
     requires { (n * m ≤ length a.now) × (m ≤ n) × (m ≤ length made.now) × (n * p ≤ length b.old) }
     ensures { b.new ≡ Householder.q_tr_mul n m a.now made.now p b.old }
 {
+    // By the step's number: each reads what the steps before it wrote.
     for k in 0..m {
         q_tr_step(a, n, m, made, b, p, k);
     }

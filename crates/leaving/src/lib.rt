@@ -58,8 +58,9 @@ pub fn leaving(
     ensures { Held.held result l.new ≡ Held.leaving originals wanted (Held.held start l.old) }
 {
     let mut s = start;
-    for t in 0..originals {
-        let next = leave_one(s, l, originals, wanted, originals - 1 - t, room);
+    // By the variable's number, which is asked for in both sets.
+    for i in (0..originals).rev() {
+        let next = leave_one(s, l, originals, wanted, i, room);
         s = next;
     }
     s

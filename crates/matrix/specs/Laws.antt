@@ -1,14 +1,15 @@
 -- Laws of the definitions: how long each list is, what stands at each place, that only the n * m elements count.
-use Rattle.std.specs.Prelude.{◌≡◌, refl, List, ℕ, ◌*◌, ◌<◌, length, get_or, Float}
+use Rattle.std.specs.Prelude.{◌≡◌, refl, List, ℕ, ◌*◌, ◌<◌, length, Float}
 use Rattle.std.proofs.Common.{sym, ◌∙◌, eq-eqb, ne_eqb}
 use Rattle.std.specs.Float.Ieee.{nan}
-use Rattle.folds.specs.Fold.{fold, tab_m, over, pick}
+use Rattle.folds.specs.Fold.{over, pick}
 use Rattle.folds.specs.Tab.{length-tab, length-tab_m, get_d_tab, get_d_tab_m, tab_m-same, over-all}
 use Rattle.arith.specs.Float.{fdiv, f0, f1, at}
 use Rattle.arith.specs.Neutral.{sum-same}
 use Rattle.vector.specs.Laws.{Same}
-use Rattle.columns.specs.Columns.{cell}
-use Rattle.columns.specs.Laws.{cell-tab_m, cell-same}
+use Rattle.reductions.specs.Reductions.{dot}
+use Rattle.columns.specs.Columns.{cell, column}
+use Rattle.columns.specs.Laws.{column-at, cell-tab_m, cell-same}
 use Rattle.matrix.specs.Matrix.{row_dot, mul_vec, column_dot, tr_mul_vec, cell_dot, mul, columns_dot, tr_mul, transpose}
 use Rattle.matrix.specs.Matrix.{unit, identity, index, select_rows, select_columns, rows_divided, columns_divided}
 
@@ -109,6 +110,19 @@ module _ (n m : ℕ) where
 
 pub over-identity : (n : ℕ) (o : List Float) → length o ≡ n * n → over (identity n) o ≡ identity n
 over-identity n o e = over-all (identity n) o (length-identity n ∙ sym e)
+
+-- ---- sums over columns, as the vector's product
+pub column-dot : (n : ℕ) (a x : List Float) (j : ℕ) → dot n (column n a j) x ≡ column_dot n a j x
+unfolding dot column_dot
+column-dot n a x j = sum-same n _ _ (λ i p. rw (column-at n a j i p))
+
+pub columns-dot : (n : ℕ) (a b : List Float) (i j : ℕ) → dot n (column n a i) (column n b j) ≡ columns_dot n a b i j
+unfolding dot columns_dot
+columns-dot n a b i j = sum-same n _ _ (λ k p. rw (column-at n a i k p, column-at n b j k p))
+
+pub cell-dot : (n m : ℕ) (a b : List Float) (i j : ℕ) → row_dot n m a i (column m b j) ≡ cell_dot n m a b i j
+unfolding row_dot cell_dot
+cell-dot n m a b i j = sum-same m _ _ (λ k p. rw (column-at m b j k p))
 
 -- ---- only the elements of the matrix count
 module _ (n m : ℕ) (a b : List Float) (e : Same (n * m) a b) where

@@ -50,8 +50,8 @@ fn null_each(
     ensures { direction.new
         ≡ NullPart.null_each n d z.now vectors.now c.now null.now direction.old }
 {
-    for i in 0..null.len() {
-        null_one(z, vectors, c, n, d, null[i], direction);
+    for &j in null {
+        null_one(z, vectors, c, n, d, j, direction);
     }
 }
 

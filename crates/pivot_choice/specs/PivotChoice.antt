@@ -1,13 +1,11 @@
 -- qp.rs, `Constraints::new`: the tolerance, and the pivot: the remaining column of the largest norm. E and what is left of it are n by m.
-use Rattle.std.specs.Prelude.{ℕ, max, Bool, false, not, List, get_or, Float}
+use Rattle.std.specs.Prelude.{ℕ, max, Bool, false, not, List, get_or, Float, Option, Some, None}
 use Rattle.folds.specs.Fold.{fold, pick}
-use Rattle.folds.specs.Best.{Best, nothing, found, last_largest}
+use Rattle.folds.specs.Best.{last_largest}
 use Rattle.arith.specs.Float.{fmul, f0, epsilon, fromℕ}
 use Rattle.arith.specs.Scalar.{max as fmax, total_less}
 use Rattle.reductions.specs.Reductions.{norm}
 use Rattle.columns.specs.Columns.{column}
-use Rattle.pivot_choice.specs.declared.Largest.{Largest}
-use Rattle.pivot_choice.specs.declared.Largest.TheVariants.{Found, Nothing}
 
 -- `left.column(j).norm()`
 unfoldable pub column_norm : (n : ℕ) (a : List Float) (j : ℕ) → Float
@@ -26,21 +24,12 @@ tolerance n m e = fmul (fmul (fromℕ (max n m)) epsilon) (largest_norm n m e)
 abbrev pub remains : (remaining : List Bool) (j : ℕ) → Bool
 remains remaining j = get_or remaining j false
 
-unfoldable pub offered : (n : ℕ) (left : List Float) (remaining : List Bool) (j : ℕ) → Best (ℕ × Float)
-offered n left remaining j = pick (remains remaining j) (found (j, column_norm n left j)) nothing
-
--- the code's enum is the source's `Option<(usize, f64)>`
-unfoldable pub as_best : Largest → Best (ℕ × Float)
-as_best (Found j norm) = found (j, norm)
-as_best Nothing = nothing
-
-unfoldable pub as_largest : Best (ℕ × Float) → Largest
-as_largest (found c) = Found c.0 c.1
-as_largest nothing = Nothing
+unfoldable pub offered : (n : ℕ) (left : List Float) (remaining : List Bool) (j : ℕ) → Option (ℕ × Float)
+offered n left remaining j = pick (remains remaining j) (Some (j, column_norm n left j)) None
 
 abbrev pub at_least : (new old : ℕ × Float) → Bool
 at_least new old = not (total_less new.1 old.1)
 
 -- `remaining.iter().map(..).enumerate().max_by(|a, b| a.1.total_cmp(&b.1))`: of equal norms the last
-unfoldable pub largest_column : (n m : ℕ) (left : List Float) (remaining : List Bool) → Largest
-largest_column n m left remaining = as_largest (last_largest (λ a b. total_less a.1 b.1) m (offered n left remaining))
+unfoldable pub largest_column : (n m : ℕ) (left : List Float) (remaining : List Bool) → Option (ℕ × Float)
+largest_column n m left remaining = last_largest (λ a b. total_less a.1 b.1) m (offered n left remaining)

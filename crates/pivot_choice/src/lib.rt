@@ -2,29 +2,10 @@
 // tolerance.
 #![tactic(auto)]
 
-ghost use Rattle.std.specs.Prelude.{◌≡◌, ◌≤◌, ◌<◌, ◌*◌, min, max, length};
-ghost use Rattle.folds.specs.Best.{found, better};
+ghost use Rattle.std.specs.Prelude.{◌≡◌, ◌≤◌, ◌<◌, ◌*◌, length};
+ghost use Rattle.folds.specs.Best.{better};
 ghost use Rattle.pivot_choice.specs.PivotChoice as PivotChoice;
-ghost use Rattle.pivot_choice.specs.PivotChoice.{as_best, at_least};
-
-// The remaining column of the largest norm, as `max_by` has it.
-#[derive(Drop)]
-pub enum Largest {
-    Found(usize, f64),
-    Nothing,
-}
-
-fn larger_of(n: usize, m: usize) -> usize
-    ensures { result ≡ max n m }
-{
-    if n < m { m } else { n }
-}
-
-pub fn smaller_of(n: usize, m: usize) -> usize
-    ensures { result ≡ min n m }
-{
-    if n < m { n } else { m }
-}
+ghost use Rattle.pivot_choice.specs.PivotChoice.{at_least};
 
 fn column_norm(a: &[f64], n: usize, m: usize, j: usize) -> f64
     requires { (n * m ≤ length a.now) × (j < m) }
@@ -38,6 +19,7 @@ fn largest_norm(e: &[f64], n: usize, m: usize) -> f64
     ensures { result ≡ PivotChoice.largest_norm n m e.now }
 {
     let mut s = 0.0;
+    // By the column's number: the columns lie in one slice.
     for j in 0..m {
         s = arith::max(s, column_norm(e, n, m, j));
     }
@@ -49,45 +31,46 @@ pub fn tolerance(e: &[f64], n: usize, m: usize) -> f64
     requires { n * m ≤ length e.now }
     ensures { result ≡ PivotChoice.tolerance n m e.now }
 {
-    arith::from_usize(larger_of(n, m)) * arith::EPSILON * largest_norm(e, n, m)
+    arith::from_usize(n.max(m)) * arith::EPSILON * largest_norm(e, n, m)
 }
 
-fn better(j: usize, norm: f64, best: Largest) -> Largest
-    ensures { as_best result ≡ better at_least (as_best best) (found (j, norm)) }
+// Of two columns, each with its norm: the one of the larger, and the last where they are equal. Not one function with the releases' `max_by`,
+// whose rate stands first: a closure for the key is longer than either.
+fn max_by(best: Option<(usize, f64)>, other: Option<(usize, f64)>) -> Option<(usize, f64)>
+    ensures { result ≡ better at_least best other }
 {
-    let Largest::Found(_, value) = best else {
-        return Largest::Found(j, norm);
+    let Some((_, norm)) = other else {
+        return best;
     };
-    if arith::total_less(norm, value) {
+    let Some((_, largest)) = best else {
+        return other;
+    };
+    if arith::total_less(norm, largest) {
         return best;
     }
-    Largest::Found(j, norm)
+    other
 }
 
-fn better_one(
-    left: &[f64],
-    n: usize,
-    m: usize,
-    remaining: &[bool],
-    j: usize,
-    best: Largest,
-) -> Largest
+// Column j with its norm, if it remains.
+fn offered(left: &[f64], n: usize, m: usize, remaining: &[bool], j: usize) -> Option<(usize, f64)>
     requires { (n * m ≤ length left.now) × (m ≤ length remaining.now) × (j < m) }
-    ensures { as_best result ≡ better at_least (as_best best) (PivotChoice.offered n left.now remaining.now j) }
+    ensures { result ≡ PivotChoice.offered n left.now remaining.now j }
 {
     if remaining[j] {
-        return better(j, column_norm(left, n, m, j), best);
+        return Some((j, column_norm(left, n, m, j)));
     }
-    best
+    None
 }
 
-pub fn largest_column(left: &[f64], n: usize, m: usize, remaining: &[bool]) -> Largest
+// The remaining column of the largest norm.
+pub fn largest_column(left: &[f64], n: usize, m: usize, remaining: &[bool]) -> Option<(usize, f64)>
     requires { (n * m ≤ length left.now) × (m ≤ length remaining.now) }
     ensures { result ≡ PivotChoice.largest_column n m left.now remaining.now }
 {
-    let mut best = Largest::Nothing;
+    let mut best = None;
+    // By the column's number: the columns lie in one slice.
     for j in 0..m {
-        best = better_one(left, n, m, remaining, j, best);
+        best = max_by(best, offered(left, n, m, remaining, j));
     }
     best
 }

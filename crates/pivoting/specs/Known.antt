@@ -11,7 +11,7 @@ use Rattle.arith.specs.Scalar.{max as fmax, total_less, negative}
 use Rattle.reductions.specs.Reductions.{dot, sum_squares, norm}
 use Rattle.vector.specs.Vector.{divided, copy, filled}
 use Rattle.columns.specs.Columns.{put_column, column}
-use Rattle.pivot_choice.specs.PivotChoice.{column_norm, largest_norm, tolerance, offered, as_largest, largest_column}
+use Rattle.pivot_choice.specs.PivotChoice.{column_norm, largest_norm, tolerance, offered, largest_column}
 use Rattle.pivoting.specs.Pivoting.{sub_column, remove_part, remove_one, remove_all, pivoting, with_basis, taken, choose, pivot_step, pivoted, factored}
 
 abbrev doubled : List Float
@@ -33,7 +33,7 @@ unfolding column_norm column norm sum_squares fold tab add mul of_int of_bits
 norms = squares
 
 pub dependent : factored 2 2 2 doubled ≡ pivoting left coefficients basis (1 ∷ []) (true ∷ false ∷ [])
-unfolding factored pivoted walk ended pivot_step choose taken with_basis remove_all remove_one remove_part sub_column largest_column as_largest last_largest
+unfolding factored pivoted walk ended pivot_step choose taken with_basis remove_all remove_one remove_part sub_column largest_column last_largest
     best_of better offered largest_norm tolerance put_column column dot divided copy filled fold tab pick both fmax total_less negative of_bits add sub mul
     div lt le eq is_nan of_int
 dependent = rw (norms.1, norms.2, norms.0)

@@ -1,5 +1,5 @@
 -- Laws of the definitions: each column that is taken is one of E's; where the loop starts.
-use Rattle.std.specs.Prelude.{◌≡◌, refl, Bool, List, [], ◌∷◌, ◌++◌, ℕ, zero, suc, ◌*◌, ◌<◌, ◌≤◌, length, take, replicate, Float}
+use Rattle.std.specs.Prelude.{◌≡◌, refl, Bool, List, [], ◌∷◌, ◌++◌, ℕ, zero, suc, ◌*◌, ◌<◌, ◌≤◌, length, take, replicate, Float, Option, Some, None}
 use Rattle.std.proofs.Common.{◌∙◌, not-suc-le-zero, arith, length-take-le, get_or-take}
 use Rattle.std.proofs.Math.Bool.{true, false}
 use Rattle.std.specs.Float.Ieee.{le}
@@ -10,8 +10,6 @@ use Rattle.arith.specs.Float.{f0}
 use Rattle.vector.specs.Vector.{copy, filled, Below}
 use Rattle.pivot_choice.specs.PivotChoice.{tolerance, largest_column}
 use Rattle.pivot_choice.specs.Laws.{found-below}
-use Rattle.pivot_choice.specs.declared.Largest.{Largest}
-use Rattle.pivot_choice.specs.declared.Largest.TheVariants.{Found, Nothing}
 use Rattle.pivoting.specs.Pivoting.{Pivoting, pivoting, with_basis, taken, choose, pivot_step, pivoted, factored, state_of, Taken}
 use Rattle.pivoting.specs.declared.Pivots.{Pivots}
 
@@ -45,11 +43,11 @@ module _ (n m p : ℕ) (tol : Float) (row : ℕ) where
   unfolding taken
   taking_below j norm (pivoting left coefficients basis pivots remaining) l q = with_basis-below _ _ _ _ _ (push_below m j pivots l q)
 
-  choose-below : (l : Largest) (s : Pivoting) → ((j : ℕ) (norm : Float) → Found j norm ≡ l → j < m) → AllBelow m (pivots_of s) →
+  choose-below : (l : Option (ℕ × Float)) (s : Pivoting) → ((j : ℕ) (norm : Float) → Some (j, norm) ≡ l → j < m) → AllBelow m (pivots_of s) →
       AllBelow m (pivots_of (ended (choose n m p tol row l s)))
   unfolding choose ended
-  choose-below Nothing s f q = q
-  choose-below (Found j norm) s f q = ended-pick (le norm tol) s (taken n m p row j norm s) q (taking_below j norm s (f j norm refl) q)
+  choose-below None s f q = q
+  choose-below (Some c) s f q = ended-pick (le c.1 tol) s (taken n m p row c.0 c.1 s) q (taking_below c.0 c.1 s (f c.0 c.1 refl) q)
 
   step-below : (s : Pivoting) → AllBelow m (pivots_of s) → AllBelow m (pivots_of (ended (pivot_step n m p tol row s)))
   unfolding pivot_step

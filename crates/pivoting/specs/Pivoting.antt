@@ -1,7 +1,7 @@
 -- qp.rs, `Constraints::new`: E = YT, with Y an orthonormal basis for E's range, by Gram-Schmidt with column pivoting and reorthogonalization.
 -- E is n by m, p = min(n, m). Y has n rows and p columns, of which the first `rank` count; T has p rows, of which the first `rank` count, and m
 -- columns.
-use Rattle.std.specs.Prelude.{ℕ, ◌*◌, ◌≤◌, Bool, true, false, List, [], ◌∷◌, ◌++◌, set, take, Float}
+use Rattle.std.specs.Prelude.{ℕ, ◌*◌, ◌≤◌, Bool, true, false, List, [], ◌∷◌, ◌++◌, set, take, Float, Option, Some, None}
 use Rattle.std.specs.Float.Ieee.{le}
 use Rattle.folds.specs.Fold.{fold, walk, tab, pick, Out, out, ended}
 use Rattle.folds.specs.Part.{Two, two}
@@ -10,8 +10,6 @@ use Rattle.reductions.specs.Reductions.{dot}
 use Rattle.vector.specs.Vector.{divided, copy, filled, Below}
 use Rattle.columns.specs.Columns.{cell, put, put_column, column}
 use Rattle.pivot_choice.specs.PivotChoice.{tolerance, remains, largest_column}
-use Rattle.pivot_choice.specs.declared.Largest.{Largest}
-use Rattle.pivot_choice.specs.declared.Largest.TheVariants.{Found, Nothing}
 use Rattle.pivoting.specs.declared.Pivots.{Pivots}
 
 -- ---- y is taken out of the remaining columns
@@ -49,9 +47,9 @@ taken n m p row j norm (pivoting left coefficients basis pivots remaining) =
     with_basis n row y basis (pivots ++ (j ∷ [])) rest (remove_all n m p row y rest (two left (put coefficients p row j norm)))
 
 -- a turn: it stops where no column remains, or the largest norm is rounding
-unfoldable pub choose : (n m p : ℕ) (tol : Float) (row : ℕ) → Largest → Pivoting → Out Pivoting
-choose n m p tol row Nothing s = out false s
-choose n m p tol row (Found j norm) s = pick (le norm tol) (out false s) (out true (taken n m p row j norm s))
+unfoldable pub choose : (n m p : ℕ) (tol : Float) (row : ℕ) → Option (ℕ × Float) → Pivoting → Out Pivoting
+choose n m p tol row None s = out false s
+choose n m p tol row (Some c) s = pick (le c.1 tol) (out false s) (out true (taken n m p row c.0 c.1 s))
 
 unfoldable pub pivot_step : (n m p : ℕ) (tol : Float) (row : ℕ) → Pivoting → Out Pivoting
 pivot_step n m p tol row (pivoting left coefficients basis pivots remaining) =

@@ -11,9 +11,7 @@ ghost use Rattle.columns.specs.Columns.{put_column};
 ghost use Rattle.pivoting.specs.Pivoting as Pivoting;
 ghost use Rattle.pivoting.specs.Pivoting.{state_of, Taken};
 
-use pivot_choice::Largest;
-
-// The column of E each of the `rank` basis vectors was built from, in order, and which columns remain.
+// The column of E each of the `rank` basis vectors was built from, in order, and which columns remain: without a heap, an array and a count.
 #[derive(Drop)]
 pub struct Pivots {
     pub column: [usize; sizes::COLUMNS],
@@ -26,8 +24,8 @@ fn sub_column(a: &mut [f64], n: usize, m: usize, l: usize, y: &[f64], t: f64)
     requires { (n * m ≤ length a.old) × (l < m) × (n ≤ length y.now) }
     ensures { a.new ≡ Pivoting.sub_column n l y.now t a.old }
 {
-    for i in 0..n {
-        let v = columns::get(&a[..], n, m, i, l) - y[i] * t;
+    for (i, y) in y[..n].iter().enumerate() {
+        let v = columns::get(&a[..], n, m, i, l) - *y * t;
         columns::put(a, n, m, i, l, v);
     }
 }
@@ -97,6 +95,7 @@ fn remove_all(
     ensures { two left.new coefficients.new
         ≡ Pivoting.remove_all n m p row y.now remaining.now (two left.old coefficients.old) }
 {
+    // By the column's number: the columns lie in one slice, and p and l are both read.
     for l in 0..m {
         remove_one(left, coefficients, n, m, p, row, y, remaining, l);
     }
@@ -106,8 +105,8 @@ fn put_column(a: &mut [f64], n: usize, m: usize, j: usize, y: &[f64])
     requires { (n * m ≤ length a.old) × (j < m) × (n ≤ length y.now) }
     ensures { a.new ≡ put_column n n j (at y.now) a.old }
 {
-    for i in 0..n {
-        columns::put(a, n, m, i, j, y[i]);
+    for (i, y) in y[..n].iter().enumerate() {
+        columns::put(a, n, m, i, j, *y);
     }
 }
 
@@ -138,17 +137,15 @@ fn with_basis(
 }
 
 // `remaining.remove(position)`, `pivots.push(j)`
-fn with_pivot(row: usize, m: usize, j: usize, pivots: Pivots) -> Pivots
+fn add_pivot(row: usize, m: usize, j: usize, pivots: &mut Pivots)
     requires { (row < Sizes.columns) × (j < m) × (m ≤ Sizes.columns) }
-    ensures { (result.rank ≡ row + 1)
-        × (take (row + 1) result.column ≡ take row pivots.column ++ (j ∷ []))
-        × (take m result.remaining ≡ set (take m pivots.remaining) j false) }
+    ensures { (pivots.new.rank ≡ row + 1)
+        × (take (row + 1) pivots.new.column ≡ take row pivots.old.column ++ (j ∷ []))
+        × (take m pivots.new.remaining ≡ set (take m pivots.old.remaining) j false) }
 {
-    let mut next = pivots;
-    next.remaining[j] = false;
-    next.column[row] = j;
-    next.rank = row + 1;
-    next
+    pivots.remaining[j] = false;
+    pivots.column[row] = j;
+    pivots.rank = row + 1;
 }
 
 // Column j, of norm `norm`, is taken.
@@ -162,8 +159,8 @@ fn taken(
     row: usize,
     j: usize,
     norm: f64,
-    pivots: Pivots,
-) -> Pivots
+    pivots: &mut Pivots,
+)
     requires { (n * m ≤ length left.old)
         × (p * m ≤ length coefficients.old)
         × (n * p ≤ length basis.old)
@@ -172,14 +169,13 @@ fn taken(
         × (n ≤ Sizes.variables)
         × (m ≤ Sizes.columns)
         × (p ≤ m)
-        × (pivots.rank ≡ row) }
-    ensures result_after { state_of m left.new coefficients.new basis.new result
-        ≡ Pivoting.taken n m p row j norm (state_of m left.old coefficients.old basis.old pivots) }
-    ensures rank_value { result.rank ≡ row + 1 }
+        × (pivots.old.rank ≡ row) }
+    ensures result_after { state_of m left.new coefficients.new basis.new pivots.new
+        ≡ Pivoting.taken n m p row j norm (state_of m left.old coefficients.old basis.old pivots.old) }
+    ensures rank_value { pivots.new.rank ≡ row + 1 }
 {
     let y = dense::divided(columns::column(&left[..], n, m, j), n, norm);
-    let next = with_pivot(row, m, j, pivots);
-    let remaining = next.remaining;
+    add_pivot(row, m, j, pivots);
     columns::put(coefficients, p, m, row, j, norm);
     with_basis(
         left,
@@ -190,18 +186,11 @@ fn taken(
         p,
         row,
         &y[..n],
-        &remaining[..m],
+        &pivots.remaining[..m],
     );
-    next
 }
 
-// Whether the loop goes on, and the columns taken.
-#[derive(Drop)]
-pub struct Turn {
-    pub more: bool,
-    pub pivots: Pivots,
-}
-
+// Whether the loop goes on.
 fn pivot_step(
     left: &mut [f64],
     coefficients: &mut [f64],
@@ -211,8 +200,8 @@ fn pivot_step(
     p: usize,
     row: usize,
     tolerance: f64,
-    pivots: Pivots,
-) -> Turn
+    pivots: &mut Pivots,
+) -> bool
     requires { (n * m ≤ length left.old)
         × (p * m ≤ length coefficients.old)
         × (n * p ≤ length basis.old)
@@ -220,30 +209,20 @@ fn pivot_step(
         × (n ≤ Sizes.variables)
         × (m ≤ Sizes.columns)
         × (p ≤ m)
-        × (pivots.rank ≡ row) }
-    ensures pivots_after { out result.more (state_of m left.new coefficients.new basis.new result.pivots)
-        ≡ Pivoting.pivot_step n m p tolerance row (state_of m left.old coefficients.old basis.old pivots) }
-    ensures rank_value { result.pivots.rank ≡ pick result.more (row + 1) row }
+        × (pivots.old.rank ≡ row) }
+    ensures pivots_after { out result (state_of m left.new coefficients.new basis.new pivots.new)
+        ≡ Pivoting.pivot_step n m p tolerance row (state_of m left.old coefficients.old basis.old pivots.old) }
+    ensures rank_value { pivots.new.rank ≡ pick result (row + 1) row }
 {
-    let remaining = pivots.remaining;
-    let best = pivot_choice::largest_column(&left[..], n, m, &remaining[..m]);
-    let Largest::Found(j, norm) = best else {
-        return Turn {
-            more: false,
-            pivots: pivots,
-        };
+    let best = pivot_choice::largest_column(&left[..], n, m, &pivots.remaining[..m]);
+    let Some((j, norm)) = best else {
+        return false;
     };
     if norm <= tolerance {
-        return Turn {
-            more: false,
-            pivots: pivots,
-        };
+        return false;
     }
-    let next = taken(left, coefficients, basis, n, m, p, row, j, norm, pivots);
-    Turn {
-        more: true,
-        pivots: next,
-    }
+    taken(left, coefficients, basis, n, m, p, row, j, norm, pivots);
+    true
 }
 
 // Gram-Schmidt with column pivoting and reorthogonalization; `left` starts as E.
@@ -269,11 +248,20 @@ fn pivoted(
     ensures rank_le_p { result.rank ≤ p }
 {
     let mut pivots = start;
+    // By the step's number, which is the row that the pivot takes.
     for row in 0..p {
-        let turn = pivot_step(left, coefficients, basis, n, m, p, row, tolerance, pivots);
-        pivots = turn.pivots;
-        if turn.more {} else {
-            return pivots;
+        if !pivot_step(
+            left,
+            coefficients,
+            basis,
+            n,
+            m,
+            p,
+            row,
+            tolerance,
+            &mut pivots,
+        ) {
+            break;
         }
     }
     pivots

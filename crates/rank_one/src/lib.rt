@@ -20,6 +20,7 @@ fn rank_rows(l: &mut [f64], v: &mut [f64], n: usize, j: usize, s: f64, t: f64, c
     requires { (n * n ≤ length l.old) × (n ≤ length v.old) × (j < n) }
     ensures { two l.new v.new ≡ RankOne.rank_rows n j s t c (two l.old v.old) }
 {
+    // By index: an entry of a column of L and one of v are written together.
     for i in j + 1..n {
         rank_row(l, v, n, j, s, t, c, i);
     }
@@ -49,6 +50,7 @@ pub fn rank_one(l: &mut [f64], v: &mut [f64], n: usize, p: usize, s: f64)
     requires { (n * n ≤ length l.old) × (n ≤ length v.old) × (p ≤ n) }
     ensures { two l.new v.new ≡ RankOne.rank_one n p s (two l.old v.old) }
 {
+    // By the column's number: each reads v as the columns before it left it.
     for j in p..n {
         rank_column(l, v, n, j, s);
     }

@@ -1,6 +1,6 @@
 -- qp.rs, `solve_noisy_kkt`: its steps in the null space of Eᵀ. K is n by n, Z is n by d; c and x have n elements, v and the gradient d.
-use Rattle.std.specs.Prelude.{ℕ, ◌+◌, ◌*◌, List, length, take, Float}
-use Rattle.folds.specs.Fold.{fold, pick}
+use Rattle.std.specs.Prelude.{Option, Some, None, ℕ, ◌+◌, ◌*◌, List, length, take, Float}
+use Rattle.folds.specs.Fold.{fold}
 use Rattle.arith.specs.Float.{fmul, fdiv, f0, epsilon, fromℕ, at}
 use Rattle.arith.specs.Scalar.{max}
 use Rattle.reductions.specs.Reductions.{dot, amax}
@@ -40,8 +40,9 @@ unfoldable pub reduced_hessian : (n d : ℕ) (k z : List Float) → Reduced
 reduced_hessian n d k z = with_cutoff n d k (symmetric_eigen d (projected n d k z))
 
 -- what counts of what the code leaves
-unfoldable pub hessian_of : (d : ℕ) → Hessian → (vectors : List Float) → Reduced
-hessian_of d h vectors = pick h.found (reduced (take d h.values) (take (d * d) vectors) h.cutoff) none
+abbrev pub hessian_of : (d : ℕ) → Option Hessian → (vectors : List Float) → Reduced
+hessian_of d (Some h) vectors = reduced (take d h.values) (take (d * d) vectors) h.cutoff
+hessian_of d None vectors = none
 
 -- ---- the step in the range of the reduced Hessian
 -- `v + w * (w.dot(&gradient) / value)`

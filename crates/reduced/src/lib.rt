@@ -6,10 +6,9 @@ ghost use Rattle.sizes.specs.Sizes as Sizes;
 ghost use Rattle.vector.specs.Vector.{Below};
 ghost use Rattle.reduced.specs.Reduced as Definition;
 
-// Whether the eigenvalues and eigenvectors of ZᵀKZ were found, the values, and the cutoff.
-#[derive(Drop)]
+// The eigenvalues of ZᵀKZ, and the cutoff.
+#[derive(Clone, Copy)]
 pub struct Hessian {
-    pub found: bool,
     pub values: [f64; sizes::VARIABLES],
     pub cutoff: f64,
 }
@@ -65,10 +64,10 @@ fn cutoff(values: &[f64], k: &[f64], n: usize, d: usize) -> f64
     ensures { result ≡ Definition.cutoff n d k.now values.now }
 {
     let largest = arith::max(reductions::amax(values, d), reductions::amax(k, n * n));
-    largest * arith::from_usize(n + 1) * arith::EPSILON
+    largest * std::num::nearest_usize_to_f64(n + 1) * arith::EPSILON
 }
 
-// The eigenvectors stand over the start of `vectors`; `room` and h are work memory.
+// None where the eigenvalues aren't found. The eigenvectors stand over the start of `vectors`; `room` and h are work memory.
 pub fn reduced_hessian(
     k: &[f64],
     z: &[f64],
@@ -77,7 +76,7 @@ pub fn reduced_hessian(
     room: &mut [f64],
     h: &mut [f64],
     vectors: &mut [f64],
-) -> Hessian
+) -> Option<Hessian>
     requires { (n ≤ Sizes.originals)
         × (d ≤ n)
         × (n * n ≤ length k.now)
@@ -90,19 +89,17 @@ pub fn reduced_hessian(
     let mut values = [0.0; sizes::VARIABLES];
     let square = d * d;
     projected(k, z, n, d, room, h);
-    let found = eigen::symmetric_eigen(
+    if !eigen::symmetric_eigen(
         &mut h[..square],
         d,
         &mut room[..square],
         &mut values[..d],
         &mut vectors[..square],
-    );
-    let cutoff = cutoff(&values[..d], k, n, d);
-    Hessian {
-        found: found,
-        values: values,
-        cutoff: cutoff,
+    ) {
+        return None;
     }
+    let cutoff = cutoff(&values[..d], k, n, d);
+    Some(Hessian { values, cutoff })
 }
 
 // v + w (w·gradient / value), for the eigenvector w of number j.
@@ -136,8 +133,8 @@ fn range_each(
     ensures { v.new
         ≡ Definition.range_each d values.now vectors.now gradient.now range.now v.old }
 {
-    for i in 0..range.len() {
-        range_one(values, vectors, d, gradient, range[i], v);
+    for &j in range {
+        range_one(values, vectors, d, gradient, j, v);
     }
 }
 

@@ -1,3 +1,4 @@
 pub mod Reductions
 pub mod Laws
+pub mod Slices
 pub mod Known

@@ -9,8 +9,8 @@ pub fn dot(a: &[f64], b: &[f64], n: usize) -> f64
     ensures { result ≡ Reductions.dot n a.now b.now }
 {
     let mut sum = 0.0;
-    for i in 0..n {
-        sum = sum + a[i] * b[i];
+    for (x, y) in a[..n].iter().zip(&b[..n]) {
+        sum += x * y;
     }
     sum
 }
@@ -19,11 +19,7 @@ pub fn sum_squares(a: &[f64], n: usize) -> f64
     requires { n ≤ length a.now }
     ensures { result ≡ Reductions.sum_squares n a.now }
 {
-    let mut s = 0.0;
-    for k in 0..n {
-        s = s + a[k] * a[k];
-    }
-    s
+    a[..n].iter().fold(0.0, |sum, x| sum + x * x)
 }
 
 // The library's `norm()`.
@@ -38,23 +34,23 @@ pub fn amax(a: &[f64], n: usize) -> f64
     requires { n ≤ length a.now }
     ensures { result ≡ Reductions.amax n a.now }
 {
-    let mut m = 0.0;
-    for k in 0..n {
-        let size = arith::abs(a[k]);
-        // `max`, since m is never NaN.
-        if m < size {
-            m = size;
+    let mut largest = 0.0;
+    for x in &a[..n] {
+        let size = x.abs();
+        // `max`, since largest is never NaN.
+        if largest < size {
+            largest = size;
         }
     }
-    m
+    largest
 }
 
 pub fn any_nan(a: &[f64], n: usize) -> bool
     requires { n ≤ length a.now }
     ensures { result ≡ Reductions.any_nan n a.now }
 {
-    for k in 0..n {
-        if arith::is_nan(a[k]) {
+    for x in &a[..n] {
+        if x.is_nan() {
             return true;
         }
     }
@@ -65,8 +61,8 @@ pub fn all_finite(a: &[f64], n: usize) -> bool
     requires { n ≤ length a.now }
     ensures { result ≡ Reductions.all_finite n a.now }
 {
-    for k in 0..n {
-        if !arith::is_finite(a[k]) {
+    for x in &a[..n] {
+        if !x.is_finite() {
             return false;
         }
     }
@@ -77,12 +73,7 @@ fn quotient_squares(a: &[f64], n: usize, by: f64) -> f64
     requires { n ≤ length a.now }
     ensures { result ≡ Reductions.quotient_squares n a.now by }
 {
-    let mut s = 0.0;
-    for k in 0..n {
-        let q = a[k] / by;
-        s = s + q * q;
-    }
-    s
+    a[..n].iter().fold(0.0, |sum, x| sum + (x / by) * (x / by))
 }
 
 // qp.rs's `norm`, computed over the largest element so that squaring doesn't overflow.
@@ -97,7 +88,7 @@ pub fn scaled_norm(a: &[f64], n: usize) -> f64
     if largest == 0.0 {
         return largest;
     }
-    if arith::is_infinite(largest) {
+    if largest.is_infinite() {
         return largest;
     }
     largest * root::sqrt(quotient_squares(a, n, largest))
@@ -107,9 +98,5 @@ pub fn total_abs(a: &[f64], n: usize) -> f64
     requires { n ≤ length a.now }
     ensures { result ≡ Reductions.total_abs n a.now }
 {
-    let mut s = 0.0;
-    for k in 0..n {
-        s = s + arith::abs(a[k]);
-    }
-    s
+    a[..n].iter().fold(0.0, |sum, x| sum + x.abs())
 }

@@ -8,17 +8,19 @@ use Rattle.columns.specs.Columns.{cell, put}
 use Rattle.angle.specs.Angle.{angle}
 use Rattle.angle.specs.declared.Turn.{Turn}
 
+-- the entries x at row i, column j and y at row k, column l become c x - s y and s x + c y
+abbrev pub turn_pair : (n i j k l : ℕ) → Turn → (a : List Float) → List Float
+turn_pair n i j k l t a =
+    put (put a n i j (fsub (fmul t.c (cell a n i j)) (fmul t.s (cell a n k l)))) n k l
+    (fadd (fmul t.s (cell a n i j)) (fmul t.c (cell a n k l)))
+
 -- `a[(k, p)] = c * akp - s * akq`, `a[(k, q)] = s * akp + c * akq`
 unfoldable pub turn_in_row : (n p q : ℕ) → Turn → (k : ℕ) (a : List Float) → List Float
-turn_in_row n p q t k a =
-    put (put a n k p (fsub (fmul t.c (cell a n k p)) (fmul t.s (cell a n k q)))) n k q
-    (fadd (fmul t.s (cell a n k p)) (fmul t.c (cell a n k q)))
+turn_in_row n p q t k a = turn_pair n k p k q t a
 
 -- `a[(p, k)] = c * apk - s * aqk`, `a[(q, k)] = s * apk + c * aqk`
 unfoldable pub turn_in_column : (n p q : ℕ) → Turn → (k : ℕ) (a : List Float) → List Float
-turn_in_column n p q t k a =
-    put (put a n p k (fsub (fmul t.c (cell a n p k)) (fmul t.s (cell a n q k)))) n q k
-    (fadd (fmul t.s (cell a n p k)) (fmul t.c (cell a n q k)))
+turn_in_column n p q t k a = turn_pair n p k q k t a
 
 unfoldable pub turn_columns : (n p q : ℕ) → Turn → (a : List Float) → List Float
 turn_columns n p q t a = fold n (turn_in_row n p q t) a

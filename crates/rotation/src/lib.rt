@@ -7,32 +7,24 @@ ghost use Rattle.rotation.specs.Rotation as Rotation;
 
 use angle::Turn;
 
-fn turn_in_row(a: &mut [f64], n: usize, p: usize, q: usize, t: Turn, k: usize)
-    requires { (n * n ≤ length a.old) × (p < n) × (q < n) × (k < n) }
-    ensures { a.new ≡ Rotation.turn_in_row n p q t k a.old }
+// The entries x at row i, column j and y at row k, column l become c x - s y and s x + c y.
+fn turn_pair(a: &mut [f64], n: usize, i: usize, j: usize, k: usize, l: usize, t: Turn)
+    requires { (n * n ≤ length a.old) × (i < n) × (j < n) × (k < n) × (l < n) }
+    ensures { a.new ≡ Rotation.turn_pair n i j k l t a.old }
 {
-    let akp = columns::get(&a[..], n, n, k, p);
-    let akq = columns::get(&a[..], n, n, k, q);
-    columns::put(a, n, n, k, p, t.c * akp - t.s * akq);
-    columns::put(a, n, n, k, q, t.s * akp + t.c * akq);
-}
-
-fn turn_in_column(a: &mut [f64], n: usize, p: usize, q: usize, t: Turn, k: usize)
-    requires { (n * n ≤ length a.old) × (p < n) × (q < n) × (k < n) }
-    ensures { a.new ≡ Rotation.turn_in_column n p q t k a.old }
-{
-    let apk = columns::get(&a[..], n, n, p, k);
-    let aqk = columns::get(&a[..], n, n, q, k);
-    columns::put(a, n, n, p, k, t.c * apk - t.s * aqk);
-    columns::put(a, n, n, q, k, t.s * apk + t.c * aqk);
+    let x = columns::get(&a[..], n, n, i, j);
+    let y = columns::get(&a[..], n, n, k, l);
+    columns::put(a, n, n, i, j, t.c * x - t.s * y);
+    columns::put(a, n, n, k, l, t.s * x + t.c * y);
 }
 
 fn turn_columns(a: &mut [f64], n: usize, p: usize, q: usize, t: Turn)
     requires { (n * n ≤ length a.old) × (p < n) × (q < n) }
     ensures { a.new ≡ Rotation.turn_columns n p q t a.old }
 {
+    // By index: two rows or columns of one matrix are written together.
     for k in 0..n {
-        turn_in_row(a, n, p, q, t, k);
+        turn_pair(a, n, k, p, k, q, t);
     }
 }
 
@@ -40,8 +32,9 @@ fn turn_rows(a: &mut [f64], n: usize, p: usize, q: usize, t: Turn)
     requires { (n * n ≤ length a.old) × (p < n) × (q < n) }
     ensures { a.new ≡ Rotation.turn_rows n p q t a.old }
 {
+    // By index: two rows or columns of one matrix are written together.
     for k in 0..n {
-        turn_in_column(a, n, p, q, t, k);
+        turn_pair(a, n, p, k, q, k, t);
     }
 }
 

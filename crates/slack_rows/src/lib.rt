@@ -21,8 +21,8 @@ fn any_slack_column(slacks: &[usize], originals: usize, first: usize, j: usize) 
     requires { Slacks originals slacks.now × (first ≤ Sizes.columns) }
     ensures { result ≡ SlackRows.any_slack_column slacks.now originals first j }
 {
-    for t in 0..slacks.len() {
-        if slack_column(slacks[t], originals, first) == j {
+    for i in slacks {
+        if slack_column(*i, originals, first) == j {
             return true;
         }
     }
@@ -34,8 +34,8 @@ fn any_entry(e: &[f64], n: usize, m: usize, solved: &[usize], j: usize) -> bool
     requires { Solved n m e.now solved.now × (j < m) }
     ensures { result ≡ SlackRows.any_entry e.now n solved.now j }
 {
-    for t in 0..solved.len() {
-        if columns::get(e, n, m, solved[t], j) != 0.0 {
+    for i in solved {
+        if columns::get(e, n, m, *i, j) != 0.0 {
             return true;
         }
     }
@@ -81,6 +81,7 @@ pub fn kept_columns(
         ≡ over (SlackRows.kept_columns e.now n m solved.now slacks.now originals first) kept.old }
 {
     let mut count = 0;
+    // By the column's number, which is what is kept.
     for j in 0..m {
         let on = keeps(e, n, m, solved, slacks, originals, first, j);
         count = vector::push_if(on, j, count, kept);
@@ -94,8 +95,8 @@ pub fn all_multipliers(multipliers: &[f64], kept: &[usize]) -> [f64; sizes::COLU
     ensures { result ≡ SlackRows.all_multipliers Sizes.columns kept.now multipliers.now }
 {
     let mut all = [0.0; sizes::COLUMNS];
-    for k in 0..kept.len() {
-        all[kept[k]] = multipliers[k];
+    for (k, j) in kept.iter().enumerate() {
+        all[*j] = multipliers[k];
     }
     all
 }
@@ -106,8 +107,8 @@ fn others(e: &[f64], n: usize, m: usize, solved: &[usize], step: &[f64], j: usiz
     ensures { result ≡ SlackRows.others e.now n solved.now step.now j }
 {
     let mut sum = 0.0;
-    for t in 0..solved.len() {
-        sum = sum + columns::get(e, n, m, solved[t], j) * step[t];
+    for (i, d) in solved.iter().zip(step) {
+        sum += columns::get(e, n, m, *i, j) * d;
     }
     sum
 }
@@ -191,11 +192,11 @@ pub fn with_slack_steps(
         originals first)
         all.old }
 {
-    for k in 0..solved.len() + slacks.len() {
-        all[k] = step_entry(
+    vector::write_each(all, solved.len() + slacks.len(), |k, _| {
+        step_entry(
             e, n, m, solved, slacks, step, residuals, originals, first, k,
-        );
-    }
+        )
+    });
 }
 
 // The size of the terms that a step's right side is a difference of: q has `count` rows and n columns.

@@ -43,6 +43,7 @@ pub fn forward(
     ensures { u.new
         ≡ Substitution.forward p coefficients.now b.now pivots.now rank u.old }
 {
+    // By index: each unknown reads those before it.
     for i in 0..rank {
         u[i] = feasible_one(coefficients, p, m, b, pivots[i], i, &u[..]);
     }
@@ -116,6 +117,7 @@ pub fn backward(
     ensures { lambda.new
         ≡ Substitution.backward p coefficients.now h.now pivots.now rank lambda.old }
 {
+    // By index: each multiplier reads those after it.
     for t in 0..rank {
         let i = rank - 1 - t;
         let j = pivots[i];

@@ -10,6 +10,7 @@ fn regular(l: &[f64], n: usize) -> bool
     requires { n * n ≤ length l.now }
     ensures { result ≡ Triangular.regular l.now n }
 {
+    // By index: the diagonal of a matrix, which no slice holds.
     for i in 0..n {
         if columns::get(l, n, n, i, i) == 0.0 {
             return false;
@@ -24,8 +25,8 @@ pub fn known(l: &[f64], n: usize, i: usize, k: usize, x: &[f64]) -> f64
     ensures { result ≡ Triangular.known k l.now n i x.now }
 {
     let mut s = 0.0;
-    for j in 0..k {
-        s = s + columns::get(l, n, n, i, j) * x[j];
+    for (j, v) in x[..k].iter().enumerate() {
+        s += columns::get(l, n, n, i, j) * v;
     }
     s
 }
@@ -35,6 +36,7 @@ pub fn forward(l: &[f64], n: usize, k: usize, x: &mut [f64])
     requires { (n * n ≤ length l.now) × (k ≤ n) × (k ≤ length x.old) }
     ensures { x.new ≡ Triangular.forward k l.now n x.old }
 {
+    // By index: each unknown reads those before it.
     for i in 0..k {
         let s = known(l, n, i, i, &x[..]);
         x[i] = (x[i] - s) / columns::get(l, n, n, i, i);
@@ -67,6 +69,7 @@ pub fn solve_lower_columns(l: &[f64], n: usize, x: &mut [f64], m: usize) -> bool
     requires { (n * n ≤ length l.now) × (n * m ≤ length x.old) }
     ensures { out result x.new ≡ Triangular.solve_lower_columns l.now n m x.old }
 {
+    // By the column's number: each is lent from one slice, to be written.
     for j in 0..m {
         if !solve_column(l, n, x, m, j) {
             return false;
@@ -79,11 +82,9 @@ fn known_below(l: &[f64], n: usize, i: usize, x: &[f64]) -> f64
     requires { (n * n ≤ length l.now) × (i < n) × (n ≤ length x.now) }
     ensures { result ≡ Triangular.known_below n l.now n i x.now }
 {
-    let mut s = 0.0;
-    for j in i + 1..n {
-        s = s + columns::get(l, n, n, j, i) * x[j];
-    }
-    s
+    let b = i + 1;
+    let column = columns::column(l, n, n, i);
+    reductions::dot(&column[b..n], &x[b..n], n - b)
 }
 
 fn unknown_back(l: &[f64], n: usize, i: usize, x: &mut [f64])
@@ -98,8 +99,9 @@ fn backward(l: &[f64], n: usize, x: &mut [f64])
     requires { (n * n ≤ length l.now) × (n ≤ length x.old) }
     ensures { x.new ≡ Triangular.backward l.now n x.old }
 {
-    for t in 0..n {
-        unknown_back(l, n, n - 1 - t, x);
+    // By index: each unknown reads those after it.
+    for i in (0..n).rev() {
+        unknown_back(l, n, i, x);
     }
 }
 

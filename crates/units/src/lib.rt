@@ -10,9 +10,7 @@ fn write_terms(e: &[f64], x: &[f64], n: usize, scale: f64, y: &mut [f64])
     requires { (n ≤ length e.now) × (n ≤ length x.now) × (n ≤ length y.old) }
     ensures { y.new ≡ over (Units.terms n e.now x.now scale) y.old }
 {
-    for i in 0..n {
-        y[i] = e[i] / scale * x[i];
-    }
+    vector::write_each(y, n, |i, _| e[i] / scale * x[i]);
 }
 
 // The terms of a constraint, over its column's scale; e is the column.
@@ -29,22 +27,14 @@ fn sum_quotients(terms: &[f64], n: usize, by: f64) -> f64
     requires { n ≤ length terms.now }
     ensures { result ≡ Units.sum_quotients n terms.now by }
 {
-    let mut s = 0.0;
-    for i in 0..n {
-        s = s + terms[i] / by;
-    }
-    s
+    terms[..n].iter().fold(0.0, |sum, t| sum + t / by)
 }
 
 fn sum_sizes(terms: &[f64], n: usize, by: f64) -> f64
     requires { n ≤ length terms.now }
     ensures { result ≡ Units.sum_sizes n terms.now by }
 {
-    let mut s = 0.0;
-    for i in 0..n {
-        s = s + arith::abs(terms[i] / by);
-    }
-    s
+    terms[..n].iter().fold(0.0, |sum, t| sum + (t / by).abs())
 }
 
 // Whether the terms add up to the target, to within 1e-8 of their size.
@@ -92,8 +82,9 @@ pub fn checked(x: &[f64], e: &[f64], b: &[f64], columns: &[f64], n: usize, m: us
     requires { (n ≤ Sizes.variables) × (n ≤ length x.now) × (n * m ≤ length e.now) × (m ≤ length b.now) × (m ≤ length columns.now) }
     ensures { result ≡ Units.checked n m x.now e.now b.now columns.now }
 {
+    // By the column's number: the columns lie in one slice.
     for j in 0..m {
-        if met(x, columns::column(e, n, m, j), n, b[j], columns[j]) {} else {
+        if !met(x, columns::column(e, n, m, j), n, b[j], columns[j]) {
             return false;
         }
     }
@@ -116,9 +107,7 @@ fn scales_or_1(y: &mut [f64], n: usize)
     requires { n ≤ length y.old }
     ensures { y.new ≡ over (Units.scales_or1 n y.old) y.old }
 {
-    for i in 0..n {
-        y[i] = scale_or_1(y[i]);
-    }
+    vector::write_each(y, n, |_, s| scale_or_1(s));
 }
 
 pub fn column_scales(e: &[f64], n: usize, m: usize) -> [f64; sizes::COLUMNS]
@@ -161,9 +150,7 @@ fn write_diagonal_scales(k: &[f64], n: usize, y: &mut [f64])
     requires { (n * n ≤ length k.now) × (n ≤ length y.old) }
     ensures { y.new ≡ over (Units.diagonal_scales n k.now) y.old }
 {
-    for i in 0..n {
-        y[i] = diagonal_scale(k, n, i);
-    }
+    vector::write_each(y, n, |i, _| diagonal_scale(k, n, i));
 }
 
 pub fn diagonal_scales(k: &[f64], n: usize) -> [f64; sizes::VARIABLES]

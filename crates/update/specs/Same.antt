@@ -4,10 +4,8 @@ use Rattle.std.proofs.Common.{◌∙◌, ⊎_elim, eq-or-lt_of_le, arith}
 use Rattle.folds.specs.Fold.{over}
 use Rattle.folds.specs.Decide.{lt-or-le}
 use Rattle.folds.specs.Tab.{tab_m-same, over_in}
-use Rattle.arith.specs.Float.{at}
 use Rattle.vector.specs.Vector.{copy}
 use Rattle.vector.specs.Laws.{Same, length-copy, copy-at}
-use Rattle.columns.specs.Columns.{cell}
 use Rattle.columns.specs.Laws.{cell-same}
 use Rattle.triangular.specs.Laws.{Lower}
 use Rattle.update.specs.Update.{staying, closed_entry, closed, leave, remove_column, standing, joined_entry, joining, joined, join, insert_column}

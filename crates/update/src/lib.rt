@@ -4,7 +4,6 @@
 ghost use Rattle.std.specs.Prelude.{◌≡◌, ◌≤◌, ◌<◌, ◌*◌, ◌+◌, length};
 ghost use Rattle.folds.specs.Fold.{over, span};
 ghost use Rattle.sizes.specs.Sizes.{originals};
-ghost use Rattle.columns.specs.Columns.{put_column};
 ghost use Rattle.update.specs.Update as Update;
 
 // Where the i-th of the n that stay stood.
@@ -19,25 +18,20 @@ fn staying(p: usize, i: usize, n: usize) -> usize
     i + 1
 }
 
-fn close_column(old: &[f64], n: usize, p: usize, j: usize, l: &mut [f64])
-    requires { ((n + 1) * (n + 1) ≤ length old.now) × (n < originals) × (j < n) × (n * n ≤ length l.old) }
-    ensures { l.new ≡ put_column n n j (λ i. Update.closed_entry n p old.now i j) l.old }
+fn closed_entry(old: &[f64], n: usize, p: usize, i: usize, j: usize) -> f64
+    requires { ((n + 1) * (n + 1) ≤ length old.now) × (n < originals) × (i < n) × (j < n) }
+    ensures { result ≡ Update.closed_entry n p old.now i j }
 {
+    let a = staying(p, i, n);
     let b = staying(p, j, n);
-    for i in 0..n {
-        let a = staying(p, i, n);
-        let v = columns::get(old, n + 1, n + 1, a, b);
-        columns::put(l, n, n, i, j, v);
-    }
+    columns::get(old, n + 1, n + 1, a, b)
 }
 
 fn close(old: &[f64], n: usize, p: usize, l: &mut [f64])
     requires { ((n + 1) * (n + 1) ≤ length old.now) × (n < originals) × (n * n ≤ length l.old) }
     ensures { l.new ≡ over (Update.closed n p old.now) l.old }
 {
-    for j in 0..n {
-        close_column(old, n, p, j, l);
-    }
+    columns::write_entries(l, n, n, |i, j, _| closed_entry(old, n, p, i, j));
 }
 
 fn removed_entry(l: &[f64], n: usize, p: usize, i: usize) -> f64
@@ -54,9 +48,7 @@ fn removed(l: &[f64], n: usize, p: usize, v: &mut [f64])
     requires { ((n + 1) * (n + 1) ≤ length l.now) × (n < originals) × (p ≤ n) × (length v.old ≡ n) }
     ensures { v.new ≡ Update.removed n p l.now }
 {
-    for i in 0..n {
-        v[i] = removed_entry(l, n, p, i);
-    }
+    vector::write_each(v, n, |i, _| removed_entry(l, n, p, i));
 }
 
 // v is room for the removed column.
@@ -92,6 +84,7 @@ fn join_below(l: &[f64], n: usize, p: usize, x: &mut [f64])
     requires { (n * n ≤ length l.now) × (n < originals) × (p ≤ n) × (n + 1 ≤ length x.old) }
     ensures { x.new ≡ span (p + 1) (n + 1) (Update.join_below n p l.now) x.old }
 {
+    // By index: each unknown reads those before it.
     for i in p + 1..n + 1 {
         let s = triangular::known(l, n, i - 1, p, &x[..]);
         x[i] = (x[i] - s) / x[p];
@@ -134,24 +127,11 @@ fn joined_entry(l: &[f64], n: usize, p: usize, x: &[f64], i: usize, j: usize) ->
     columns::get(l, n, n, a, b)
 }
 
-fn joined_column(old: &[f64], n: usize, p: usize, x: &[f64], j: usize, l: &mut [f64])
-    requires { (n * n ≤ length old.now) × (n < originals) × (p ≤ n) × (j ≤ n) × (n < length x.now) × ((n + 1) * (n + 1) ≤ length l.old) }
-    ensures { l.new ≡
-        put_column (n + 1) (n + 1) j (λ i. Update.joined_entry n p old.now x.now i j) l.old }
-{
-    for i in 0..n + 1 {
-        let v = joined_entry(old, n, p, x, i, j);
-        columns::put(l, n + 1, n + 1, i, j, v);
-    }
-}
-
 fn joined(old: &[f64], n: usize, p: usize, x: &[f64], l: &mut [f64])
     requires { (n * n ≤ length old.now) × (n < originals) × (p ≤ n) × (n < length x.now) × ((n + 1) * (n + 1) ≤ length l.old) }
     ensures { l.new ≡ over (Update.joined n p old.now x.now) l.old }
 {
-    for j in 0..n + 1 {
-        joined_column(old, n, p, x, j, l);
-    }
+    columns::write_entries(l, n + 1, n + 1, |i, j, _| joined_entry(old, n, p, x, i, j));
 }
 
 // x is room for the new row and column.

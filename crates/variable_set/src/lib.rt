@@ -16,9 +16,8 @@ pub fn marks(list: &[usize]) -> [bool; sizes::ORIGINALS]
     ensures { result ≡ Marks.marks Sizes.originals list.now }
 {
     let mut s = [false; sizes::ORIGINALS];
-    for t in 0..list.len() {
-        let i = list[t];
-        s[i] = true;
+    for i in list {
+        s[*i] = true;
     }
     s
 }
@@ -30,8 +29,8 @@ pub fn rising(s: [bool; sizes::ORIGINALS], n: usize, list: &mut [usize]) -> usiz
     ensures list_after { list.new ≡ over (Marks.rising n s) list.old }
 {
     let mut m = 0;
-    for i in 0..n {
-        m = vector::push_if(s[i], i, m, list);
+    for (i, on) in s[..n].iter().enumerate() {
+        m = vector::push_if(*on, i, m, list);
     }
     m
 }
@@ -63,8 +62,8 @@ pub fn joining(held: [bool; sizes::ORIGINALS], indices: &[usize]) -> usize
     ensures upper_bound { result ≤ length indices.now }
 {
     let mut m = 0;
-    for t in 0..indices.len() {
-        m = count_if_new(held, indices[t], m);
+    for i in indices {
+        m = count_if_new(held, *i, m);
     }
     m
 }

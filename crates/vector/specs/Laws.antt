@@ -1,11 +1,13 @@
 -- Laws of the definitions: how long each list is, what stands at each place, and that only the first n elements count.
 use Rattle.std.specs.Prelude.{◌≡◌, true, false, List, ℕ, ◌<◌, ◌≤◌, length, take, get_or, replicate, Float}
-use Rattle.std.proofs.Common.{sym, ◌∙◌, arith, get_or-take, ext_get_or}
+use Rattle.std.proofs.Common.{sym, ◌∙◌, ⊎_elim, arith, length-take-le, get_or-take, ext_get_or}
+use Rattle.std.proofs.lemmas.List.{length-replicate, get_or-replicate}
 use Rattle.std.specs.Float.Ieee.{nan, eq}
 use Rattle.std.specs.Float.{binary64}
 use Rattle.std.specs.Float.Ieee.Fits.{div-fits}
-use Rattle.folds.specs.Fold.{over}
-use Rattle.folds.specs.Tab.{length-tab, get_d_tab, tab-same, tab-all, over-all, over_in, take-replicate, taken-over}
+use Rattle.folds.specs.Fold.{tab, over}
+use Rattle.folds.specs.Decide.{lt-or-le}
+use Rattle.folds.specs.Tab.{length-tab, get_d_tab, tab-same, tab-all, length-over, over-all, over_in, over_past, take-replicate, taken-over}
 use Rattle.arith.specs.Float.{fadd, fsub, fmul, fdiv, f0, at}
 use Rattle.arith.specs.Scalar.{is_finite}
 use Rattle.arith.specs.Neutral.{Held, zero-is, plus, plus-held, plus-add, add-zero}
@@ -14,6 +16,17 @@ use Rattle.reductions.specs.Reductions.{amax, all_finite}
 use Rattle.reductions.specs.Laws.{finite-at, finite-all, amax_largest}
 use Rattle.vector.specs.Vector.{scaled, divided, add, sub, mul, div, add_scaled, sub_scaled, add_scalar, copy, filled}
 use Rattle.vector.specs.Vector.{select}
+
+-- ---- a list whose first n elements are g 0, .., g (n - 1), and whose others are o's
+pub over_by : (n : ℕ) (g : ℕ → Float) (s o : List Float) → n ≤ length o → length s ≡ length o →
+    ((k : ℕ) → k < n → at s k ≡ g k) → ((k : ℕ) → n ≤ k → at s k ≡ at o k) → s ≡ over (tab n g) o
+over_by n g s o h e f r =
+    let t : length (tab n g) ≡ n = length-tab n g in
+    ext_get_or nan s (over (tab n g) o) (e ∙ sym (length-over (tab n g) o (omega arith)))
+    (λ k _. ⊎_elim
+    (λ (i : k < n). f k i ∙ sym (over_in nan (tab n g) o k (omega arith) ∙ get_d_tab nan n k g i))
+    (λ (i : n ≤ k). r k i ∙ sym (over_past nan (tab n g) o k (omega arith)))
+    (lt-or-le k n))
 
 -- ---- lengths
 module _ (n : ℕ) where
@@ -120,6 +133,10 @@ pub copy-all : (n : ℕ) (a : List Float) → length a ≡ n → copy n a ≡ a
 unfolding copy
 copy-all n a e = tab-all nan n a e
 
+pub copy-take : (n : ℕ) (a : List Float) → n ≤ length a → take n a ≡ copy n a
+unfolding copy
+copy-take n a h = let m : length (take n a) ≡ n = length-take-le n a h in sym (copy-all n (take n a) m) ∙ tab-same n _ _ (λ k l. get_or-take n a k nan l)
+
 -- a copy over a list of n elements is the copy, and of a list of n elements is that list
 pub over-copy : (n : ℕ) (a o : List Float) → length o ≡ n → over (copy n a) o ≡ copy n a
 over-copy n a o e = over-all (copy n a) o (length-copy n a ∙ sym e)
@@ -129,6 +146,10 @@ copy-over n a o p q = over-copy n a o q ∙ copy-all n a p
 
 pub over-filled : (n : ℕ) (v : Float) (o : List Float) → length o ≡ n → over (filled n v) o ≡ filled n v
 over-filled n v o e = over-all (filled n v) o (length-filled n v ∙ sym e)
+
+pub replicate-filled : (n : ℕ) (v : Float) → replicate n v ≡ filled n v
+unfolding filled
+replicate-filled n v = sym (tab-all nan n (replicate n v) (length-replicate n v)) ∙ tab-same n _ _ (λ k l. get_or-replicate n k v nan l)
 
 pub take-filled : (k n : ℕ) (v : Float) → k ≤ n → take k (replicate n v) ≡ filled k v
 unfolding filled

@@ -1,29 +1,39 @@
 // Vectors: a slice, of which the first n elements count.
 #![tactic(auto)]
 
-ghost use Rattle.std.specs.Prelude.{◌≡◌, ◌+◌, ◌≤◌, ◌<◌, length};
+ghost use Rattle.std.specs.Prelude.{◌≡◌, ℕ, ◌+◌, ◌≤◌, ◌<◌, length};
 ghost use Rattle.folds.specs.Fold.{over};
 ghost use Rattle.folds.specs.Chosen.{held, push_if};
+ghost use Rattle.arith.specs.Float.{at};
 ghost use Rattle.vector.specs.Vector as Vector;
 ghost use Rattle.vector.specs.Vector.{Below};
+
+// y[k] becomes f(k, y[k]), for each k below n. By index: of what is written through a zip's `iter_mut` the library says nothing.
+pub fn write_each<F: Fn(usize, f64) -> f64>(y: &mut [f64], n: usize, f: F)
+    requires within { n ≤ length y.old }
+    requires callable { (k : ℕ) (v : _) → k < n → F.pre f k v }
+    ensures length { length y.new ≡ length y.old }
+    ensures written { (k : ℕ) → k < n → F.post f k (at y.old k) (at y.new k) }
+    ensures kept { (k : ℕ) → n ≤ k → at y.new k ≡ at y.old k }
+{
+    for k in 0..n {
+        y[k] = f(k, y[k]);
+    }
+}
 
 // In place: a times and over a number.
 pub fn scale(a: &mut [f64], n: usize, by: f64)
     requires { n ≤ length a.old }
     ensures { a.new ≡ over (Vector.scaled n a.old by) a.old }
 {
-    for k in 0..n {
-        a[k] = a[k] * by;
-    }
+    write_each(a, n, |_, v| v * by);
 }
 
 pub fn divide(a: &mut [f64], n: usize, by: f64)
     requires { n ≤ length a.old }
     ensures { a.new ≡ over (Vector.divided n a.old by) a.old }
 {
-    for k in 0..n {
-        a[k] = a[k] / by;
-    }
+    write_each(a, n, |_, v| v / by);
 }
 
 // y becomes y - x, y + x by and y - x by.
@@ -31,27 +41,21 @@ pub fn sub_from(y: &mut [f64], n: usize, x: &[f64])
     requires { (n ≤ length y.old) × (n ≤ length x.now) }
     ensures { y.new ≡ over (Vector.sub n y.old x.now) y.old }
 {
-    for k in 0..n {
-        y[k] = y[k] - x[k];
-    }
+    write_each(y, n, |k, v| v - x[k]);
 }
 
 pub fn add_scaled(y: &mut [f64], n: usize, x: &[f64], by: f64)
     requires { (n ≤ length y.old) × (n ≤ length x.now) }
     ensures { y.new ≡ over (Vector.add_scaled n y.old x.now by) y.old }
 {
-    for k in 0..n {
-        y[k] = y[k] + x[k] * by;
-    }
+    write_each(y, n, |k, v| v + x[k] * by);
 }
 
 pub fn sub_scaled(y: &mut [f64], n: usize, x: &[f64], by: f64)
     requires { (n ≤ length y.old) × (n ≤ length x.now) }
     ensures { y.new ≡ over (Vector.sub_scaled n y.old x.now by) y.old }
 {
-    for k in 0..n {
-        y[k] = y[k] - x[k] * by;
-    }
+    write_each(y, n, |k, v| v - x[k] * by);
 }
 
 // The rest write their result over the start of y.
@@ -59,81 +63,63 @@ pub fn scaled(a: &[f64], n: usize, by: f64, y: &mut [f64])
     requires { (n ≤ length a.now) × (n ≤ length y.old) }
     ensures { y.new ≡ over (Vector.scaled n a.now by) y.old }
 {
-    for k in 0..n {
-        y[k] = a[k] * by;
-    }
+    write_each(y, n, |k, _| a[k] * by);
 }
 
 pub fn divided(a: &[f64], n: usize, by: f64, y: &mut [f64])
     requires { (n ≤ length a.now) × (n ≤ length y.old) }
     ensures { y.new ≡ over (Vector.divided n a.now by) y.old }
 {
-    for k in 0..n {
-        y[k] = a[k] / by;
-    }
+    write_each(y, n, |k, _| a[k] / by);
 }
 
 pub fn add(a: &[f64], b: &[f64], n: usize, y: &mut [f64])
     requires { (n ≤ length a.now) × (n ≤ length b.now) × (n ≤ length y.old) }
     ensures { y.new ≡ over (Vector.add n a.now b.now) y.old }
 {
-    for k in 0..n {
-        y[k] = a[k] + b[k];
-    }
+    write_each(y, n, |k, _| a[k] + b[k]);
 }
 
 pub fn sub(a: &[f64], b: &[f64], n: usize, y: &mut [f64])
     requires { (n ≤ length a.now) × (n ≤ length b.now) × (n ≤ length y.old) }
     ensures { y.new ≡ over (Vector.sub n a.now b.now) y.old }
 {
-    for k in 0..n {
-        y[k] = a[k] - b[k];
-    }
+    write_each(y, n, |k, _| a[k] - b[k]);
 }
 
 pub fn mul(a: &[f64], b: &[f64], n: usize, y: &mut [f64])
     requires { (n ≤ length a.now) × (n ≤ length b.now) × (n ≤ length y.old) }
     ensures { y.new ≡ over (Vector.mul n a.now b.now) y.old }
 {
-    for k in 0..n {
-        y[k] = a[k] * b[k];
-    }
+    write_each(y, n, |k, _| a[k] * b[k]);
 }
 
 pub fn div(a: &[f64], b: &[f64], n: usize, y: &mut [f64])
     requires { (n ≤ length a.now) × (n ≤ length b.now) × (n ≤ length y.old) }
     ensures { y.new ≡ over (Vector.div n a.now b.now) y.old }
 {
-    for k in 0..n {
-        y[k] = a[k] / b[k];
-    }
+    write_each(y, n, |k, _| a[k] / b[k]);
 }
 
 pub fn add_scalar(a: &[f64], n: usize, v: f64, y: &mut [f64])
     requires { (n ≤ length a.now) × (n ≤ length y.old) }
     ensures { y.new ≡ over (Vector.add_scalar n a.now v) y.old }
 {
-    for k in 0..n {
-        y[k] = a[k] + v;
-    }
+    write_each(y, n, |k, _| a[k] + v);
 }
 
 pub fn copy(a: &[f64], n: usize, y: &mut [f64])
     requires { (n ≤ length a.now) × (n ≤ length y.old) }
     ensures { y.new ≡ over (Vector.copy n a.now) y.old }
 {
-    for k in 0..n {
-        y[k] = a[k];
-    }
+    y[..n].copy_from_slice(&a[..n]);
 }
 
 pub fn fill(y: &mut [f64], n: usize, v: f64)
     requires { n ≤ length y.old }
     ensures { y.new ≡ over (Vector.filled n v) y.old }
 {
-    for k in 0..n {
-        y[k] = v;
-    }
+    y[..n].fill(v);
 }
 
 // The elements of a (n of them) that the first k numbers of list name.
@@ -141,9 +127,7 @@ pub fn select(a: &[f64], n: usize, list: &[usize], k: usize, y: &mut [f64])
     requires { (n ≤ length a.now) × (k ≤ length list.now) × (k ≤ length y.old) × Below k list.now n }
     ensures { y.new ≡ over (Vector.select k a.now list.now) y.old }
 {
-    for i in 0..k {
-        y[i] = a[list[i]];
-    }
+    write_each(y, k, |i, _| a[list[i]]);
 }
 
 // k at place m of list if on, and the next free place.

@@ -1,5 +1,7 @@
-use Rattle.arith.proofs.Cases.{plus_inf}
+use Rattle.std.specs.Prelude.{refl}
+use Rattle.std.specs.Float.Ieee.{of_bits}
 use Rattle.arith.proofs.infinity.Goals as goal
 
 pub returns : goal.returns
-returns c = plus_inf
+unfolding of_bits
+returns c = refl

@@ -1,16 +1,15 @@
 use Rattle.folds.specs.Kit.{pick}
 use Rattle.arith.specs.Scalar.{min}
-use Rattle.arith.proofs.Cases.{ne_nan}
 use Rattle.arith.proofs.min.Goals as goal
 
-pub returns-then-a : goal.returns-then-a
+pub returns-then-is_nan : goal.returns-then-is_nan
 unfolding min pick
-returns-then-a c = rw (← ne_nan c.args.a, c.if-a.true)
+returns-then-is_nan c = rw (← c.is_nan.ensures.value, c.if-is_nan.true)
 
 pub returns-then-b-a : goal.returns-then-b-a
 unfolding min pick
-returns-then-b-a c = rw (← ne_nan c.args.a, c.if-a.false, c.if-b-a.true)
+returns-then-b-a c = rw (← c.is_nan.ensures.value, c.if-is_nan.false, c.if-b-a.true)
 
 pub returns : goal.returns
 unfolding min pick
-returns c = rw (← ne_nan c.args.a, c.if-a.false, c.if-b-a.false)
+returns c = rw (← c.is_nan.ensures.value, c.if-is_nan.false, c.if-b-a.false)

@@ -1,5 +1,7 @@
-use Rattle.arith.proofs.Cases.{not-number}
+use Rattle.std.specs.Prelude.{refl}
+use Rattle.std.specs.Float.Ieee.{of_bits}
 use Rattle.arith.proofs.nan.Goals as goal
 
 pub returns : goal.returns
-returns c = not-number
+unfolding of_bits
+returns c = refl

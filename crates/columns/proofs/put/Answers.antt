@@ -1,4 +1,4 @@
-use Rattle.folds.specs.Kit.{◌+◌, ◌*◌, ◌<◌, arith, length, rules, cell-lt}
+use Rattle.folds.specs.Kit.{◌+◌, ◌*◌, ◌<◌, arith, length, cell-lt}
 use Rattle.columns.proofs.put.Goals as goal
 use Rattle.columns.proofs.put.Goals.{Start}
 

@@ -7,36 +7,36 @@ use Rattle.sizes.specs.Sizes as Sizes
 use Rattle.constraints.specs.Room.{rows_fit}
 use Rattle.constraints.specs.Laws.{new-from}
 use Rattle.constraints.proofs.new_in.Goals as goal
-use Rattle.constraints.proofs.new_in.Goals.{After-factored-pivots, After-smaller_of-p}
+use Rattle.constraints.proofs.new_in.Goals.{After-factored-pivots, After-min-p}
 
-abbrev size : After-factored-pivots → After-smaller_of-p
-size c = (goal.at.After-factored-pivots c).After-smaller_of-p
+abbrev size : After-factored-pivots → After-min-p
+size c = (goal.at.After-factored-pivots c).After-min-p
 
-p-m : (c : After-smaller_of-p) → c.smaller_of-p.result ≤ c.args.m
+p-m : (c : After-min-p) → c.min-p.result ≤ c.args.m
 p-m c = omega arith
 
-p-n : (c : After-smaller_of-p) → c.smaller_of-p.result ≤ c.args.n
+p-n : (c : After-min-p) → c.min-p.result ≤ c.args.n
 p-n c = omega arith
 
 -- T and Y have room
-t-fits : (c : After-smaller_of-p) → c.smaller_of-p.result * c.args.m ≤ length c.args.coefficients.now
-t-fits c = le_trans (rows_fit _ _ c.smaller_of-p.ensures) c.requires.0.coefficients_room
+t-fits : (c : After-min-p) → c.min-p.result * c.args.m ≤ length c.args.coefficients.now
+t-fits c = le_trans (rows_fit _ _ c.min-p.ensures) c.requires.0.coefficients_room
 
-y-fits : (c : After-smaller_of-p) → c.args.n * c.smaller_of-p.result ≤ length c.args.range.now
+y-fits : (c : After-min-p) → c.args.n * c.min-p.result ≤ length c.args.range.now
 y-fits c = le_trans (mul-le-mul_left _ (p-m c)) c.requires.0.range_room
 
 pub overflow_mul-y : goal.overflow_mul-y
 overflow_mul-y c = omega (arith, y-fits c)
 
 pub slice_bounds-factored-end-4 : goal.slice_bounds-factored-end-4
-slice_bounds-factored-end-4 c = sym (length-take-le _ _ (t-fits (goal.at.slice_bounds-factored-end-4 c).After-smaller_of-p))
+slice_bounds-factored-end-4 c = sym (length-take-le _ _ (t-fits (goal.at.slice_bounds-factored-end-4 c).After-min-p))
 
 pub slice_bounds-factored-end-6 : goal.slice_bounds-factored-end-6
-slice_bounds-factored-end-6 c = sym (length-take-le _ _ (y-fits (goal.at.slice_bounds-factored-end-6 c).After-smaller_of-p))
+slice_bounds-factored-end-6 c = sym (length-take-le _ _ (y-fits (goal.at.slice_bounds-factored-end-6 c).After-min-p))
 
 pub factored-pivots-requires : goal.factored-pivots-requires
 factored-pivots-requires c =
-    let b3 = (goal.at.factored-pivots-requires c).After-smaller_of-p in
+    let b3 = (goal.at.factored-pivots-requires c).After-min-p in
     let r = c.requires in (
       r.0.e_holds,
       length-take-le _ _ r.1,
@@ -47,14 +47,14 @@ factored-pivots-requires c =
       p-m b3,
     )
 
-columns-le : (c : After-factored-pivots) → c.args.n * c.factored-pivots.result.rank ≤ c.args.n * c.smaller_of-p.result
+columns-le : (c : After-factored-pivots) → c.args.n * c.factored-pivots.result.rank ≤ c.args.n * c.min-p.result
 columns-le c = mul-le-mul_left _ c.factored-pivots.ensures.taken.few
 
 y-length : (c : After-factored-pivots) →
-    length c.factored-pivots.new.basis ≡ c.args.n * c.smaller_of-p.result
+    length c.factored-pivots.new.basis ≡ c.args.n * c.min-p.result
 y-length c = c.factored-pivots.auto.basis ∙ length-take-le _ _ (y-fits (size c))
 
-t-length : (c : After-factored-pivots) → length c.factored-pivots.new.coefficients ≡ c.smaller_of-p.result * c.args.m
+t-length : (c : After-factored-pivots) → length c.factored-pivots.new.coefficients ≡ c.min-p.result * c.args.m
 t-length c = c.factored-pivots.auto.coefficients ∙ length-take-le _ _ (t-fits (size c))
 
 y-holds : (c : After-factored-pivots) → c.args.n * c.factored-pivots.result.rank ≤ length c.factored-pivots.new.basis
@@ -102,10 +102,10 @@ returns c =
     let b21 = size b17 in
     let a = c.args in
     let few = c.factored-pivots.ensures.taken.few in record {
-      result_after = new-from a.n a.m c.smaller_of-p.result a.e.now _ _ _ _ _ _ _ c.smaller_of-p.ensures c.factored-pivots.ensures.result_after
+      result_after = new-from a.n a.m c.min-p.result a.e.now _ _ _ _ _ _ _ c.min-p.ensures c.factored-pivots.ensures.result_after
           (omega (arith, few, p-m b21, c.requires.0.columns, columns b17)) (take-append-le _ _ _ (y-holds b17))
           c.null_space.ensures (take_at _ _ _ (t-length b17));
-      taken = rw c.smaller_of-p.ensures at c.factored-pivots.ensures.taken;
+      taken = rw c.min-p.ensures at c.factored-pivots.ensures.taken;
     }
 
 pub overflow_mul-t : goal.overflow_mul-t
@@ -115,7 +115,7 @@ pub slice_bounds-factored-end-2 : goal.slice_bounds-factored-end-2
 slice_bounds-factored-end-2 c = sym (length-take-le _ _ c.requires.1)
 
 pub slice_bounds-factored-end-3 : goal.slice_bounds-factored-end-3
-slice_bounds-factored-end-3 c = t-fits (goal.at.slice_bounds-factored-end-3 c).After-smaller_of-p
+slice_bounds-factored-end-3 c = t-fits (goal.at.slice_bounds-factored-end-3 c).After-min-p
 
 pub slice_bounds-factored-end-5 : goal.slice_bounds-factored-end-5
-slice_bounds-factored-end-5 c = y-fits (goal.at.slice_bounds-factored-end-5 c).After-smaller_of-p
+slice_bounds-factored-end-5 c = y-fits (goal.at.slice_bounds-factored-end-5 c).After-min-p

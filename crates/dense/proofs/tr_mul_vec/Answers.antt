@@ -1,7 +1,13 @@
-use Rattle.folds.specs.Kit.{rules}
+use Rattle.std.proofs.Common.{◌≡◌, rules}
+use Rattle.folds.specs.Fold.{over}
 use Rattle.folds.specs.Tab.{taken-over}
+use Rattle.matrix.specs.Matrix.{tr_mul_vec}
 use Rattle.matrix.specs.Laws.{length-tr_mul_vec}
 use Rattle.dense.proofs.tr_mul_vec.Goals as goal
 
 pub returns : goal.returns
-returns c = taken-over _ _ (length-tr_mul_vec _ _ _ _) c.tr_mul_vec.ensures
+returns c =
+    let x = c.args in
+    let w = c.written.ensures in
+    let m = w.met in
+    let e : w.left.now ≡ over (tr_mul_vec x.n x.m x.a.now x.x.now) w.shown.now = search rules in rw (← w.leaves) (taken-over _ _ (length-tr_mul_vec _ _ _ _) e)

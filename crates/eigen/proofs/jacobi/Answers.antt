@@ -1,4 +1,4 @@
-use Rattle.folds.specs.Kit.{arith, kit}
+use Rattle.folds.specs.Kit.{arith}
 use Rattle.eigen.proofs.Whole.{found, lost}
 use Rattle.eigen.proofs.jacobi.Goals as goal
 

@@ -1,6 +1,5 @@
-use Rattle.folds.specs.Kit.{◌≡◌, ◌-◌, ◌≤◌, fold, kit}
-use Rattle.arith.specs.Float.{f0}
-use Rattle.eigen.specs.Eigen.{off_row, off_diagonal}
+use Rattle.folds.specs.Kit.{◌-◌, kit}
+use Rattle.eigen.specs.Eigen.{off_diagonal}
 use Rattle.eigen.proofs.off_diagonal.Goals as goal
 
 pub loop-p-init : goal.loop-p-init

@@ -1,6 +1,6 @@
-use Rattle.folds.specs.Kit.{◌≡◌, ◌-◌, ◌≤◌, fold, kit}
+use Rattle.folds.specs.Kit.{◌≡◌, ◌-◌, ◌≤◌, fold}
 use Rattle.arith.specs.Float.{f0}
-use Rattle.eigen.specs.Eigen.{off_row, off_diagonal}
+use Rattle.eigen.specs.Eigen.{off_row}
 use Rattle.eigen.proofs.off_diagonal.Given as goal
 
 abbrev pub invariant-loop-p : goal.invariant-loop-p

@@ -1,6 +1,4 @@
-use Rattle.folds.specs.Kit.{◌≡◌, ◌+◌, ◌-◌, ◌≤◌, arith, rules, span, spans, span_call}
-use Rattle.arith.specs.Float.{fadd, fmul}
-use Rattle.columns.specs.Columns.{cell}
+use Rattle.folds.specs.Kit.{◌-◌, arith, rules, spans, span_call}
 use Rattle.eigen.specs.Eigen.{off_row}
 use Rattle.eigen.proofs.off_row.Goals as goal
 

@@ -1,7 +1,6 @@
-use Rattle.folds.specs.Kit.{◌≡◌, ◌+◌, ◌-◌, ◌≤◌, arith, rules, span, spans, span_call}
+use Rattle.folds.specs.Kit.{◌≡◌, ◌+◌, ◌-◌, ◌≤◌, span}
 use Rattle.arith.specs.Float.{fadd, fmul}
 use Rattle.columns.specs.Columns.{cell}
-use Rattle.eigen.specs.Eigen.{off_row}
 use Rattle.eigen.proofs.off_row.Given as goal
 
 abbrev pub invariant-loop-q : goal.invariant-loop-q

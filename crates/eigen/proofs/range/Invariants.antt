@@ -1,11 +1,10 @@
-use Rattle.folds.specs.Kit.{◌≡◌, ◌-◌, ◌≤◌, arith, length, refl, over, kit}
-use native.Mathlib.Nat.{le_antisymm}
+use Rattle.folds.specs.Kit.{◌≡◌, ◌≤◌, length, over}
 use lib.Ieee.{lt}
-use Rattle.folds.specs.Chosen.{chosen, chosen-step}
+use Rattle.folds.specs.Chosen.{chosen}
 use Rattle.arith.specs.Float.{at}
-use Rattle.eigen.specs.Eigen.{range}
 use Rattle.eigen.proofs.range.Given as goal
 
 abbrev pub invariant-loop-k : goal.invariant-loop-k
-invariant-loop-k l = (l.k ≤ l.n) × (l.m ≤ l.k) × (length l.list ≡ length l.initial.list) × (l.m ≡ length (chosen l.k (λ t. lt l.cutoff (at l.values t)))) ×
-    (l.list ≡ over (chosen l.k (λ t. lt l.cutoff (at l.values t))) l.initial.list)
+invariant-loop-k l =
+    (l.m ≤ l.k) × (length l.list ≡ length l.initial.list) × (l.m ≡ length (chosen l.k (λ t. lt l.cutoff (at l.fn.values t)))) ×
+    (l.list ≡ over (chosen l.k (λ t. lt l.cutoff (at l.fn.values t))) l.initial.list)

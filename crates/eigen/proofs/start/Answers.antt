@@ -1,4 +1,4 @@
-use Rattle.folds.specs.Kit.{refl, kit}
+use Rattle.folds.specs.Kit.{refl}
 use Rattle.eigen.proofs.Whole.{started}
 use Rattle.eigen.proofs.start.Goals as goal
 

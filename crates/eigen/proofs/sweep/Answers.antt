@@ -1,5 +1,4 @@
-use Rattle.folds.specs.Kit.{◌≡◌, ◌-◌, ◌≤◌, arith, length, fold, fold_call, kit}
-use Rattle.folds.specs.Part.{two}
+use Rattle.folds.specs.Kit.{◌-◌, arith, fold_call, kit}
 use Rattle.eigen.specs.Eigen.{sweep_row, sweep}
 use Rattle.eigen.proofs.sweep.Goals as goal
 

@@ -1,6 +1,6 @@
-use Rattle.folds.specs.Kit.{◌≡◌, ◌-◌, ◌≤◌, arith, length, fold, fold_call, kit}
+use Rattle.folds.specs.Kit.{◌≡◌, ◌-◌, ◌≤◌, length, fold}
 use Rattle.folds.specs.Part.{two}
-use Rattle.eigen.specs.Eigen.{sweep_row, sweep}
+use Rattle.eigen.specs.Eigen.{sweep_row}
 use Rattle.eigen.proofs.sweep.Given as goal
 
 abbrev pub invariant-loop-p : goal.invariant-loop-p

@@ -1,5 +1,4 @@
-use Rattle.folds.specs.Kit.{◌≡◌, ◌+◌, ◌-◌, ◌≤◌, arith, length, rules, span, spans, span_call}
-use Rattle.folds.specs.Part.{two}
+use Rattle.folds.specs.Kit.{◌-◌, arith, rules, spans, span_call}
 use Rattle.rotation.specs.Rotation.{rotate}
 use Rattle.eigen.specs.Eigen.{sweep_row}
 use Rattle.eigen.proofs.sweep_row.Goals as goal

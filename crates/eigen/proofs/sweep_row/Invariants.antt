@@ -1,7 +1,6 @@
-use Rattle.folds.specs.Kit.{◌≡◌, ◌+◌, ◌-◌, ◌≤◌, arith, length, rules, span, spans, span_call}
+use Rattle.folds.specs.Kit.{◌≡◌, ◌+◌, ◌-◌, ◌≤◌, length, span}
 use Rattle.folds.specs.Part.{two}
 use Rattle.rotation.specs.Rotation.{rotate}
-use Rattle.eigen.specs.Eigen.{sweep_row}
 use Rattle.eigen.proofs.sweep_row.Given as goal
 
 abbrev pub invariant-loop-q : goal.invariant-loop-q

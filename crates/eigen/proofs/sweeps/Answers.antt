@@ -1,7 +1,5 @@
-use Rattle.folds.specs.Kit.{◌≡◌, ◌-◌, ◌≤◌, arith, length, refl, kit}
-use Rattle.folds.specs.Part.{two}
-use Rattle.eigen.specs.Eigen.{sweeps}
-use Rattle.eigen.proofs.Passes.{Left, all-left, spent, broken, found, again}
+use Rattle.folds.specs.Kit.{◌-◌, arith, refl}
+use Rattle.eigen.proofs.Passes.{all-left, spent, broken, found, again}
 use Rattle.eigen.proofs.sweeps.Goals as goal
 
 pub loop-init : goal.loop-init

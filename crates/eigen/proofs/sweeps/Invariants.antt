@@ -1,7 +1,7 @@
-use Rattle.folds.specs.Kit.{◌≡◌, ◌-◌, ◌≤◌, arith, length, refl, kit}
+use Rattle.folds.specs.Kit.{◌≡◌, ◌-◌, ◌≤◌, length}
 use Rattle.folds.specs.Part.{two}
 use Rattle.eigen.specs.Eigen.{sweeps}
-use Rattle.eigen.proofs.Passes.{Left, all-left, spent, broken, found, again}
+use Rattle.eigen.proofs.Passes.{Left}
 use Rattle.eigen.proofs.sweeps.Given as goal
 
 abbrev pub invariant-loop : goal.invariant-loop

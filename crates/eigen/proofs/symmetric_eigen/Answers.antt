@@ -1,4 +1,3 @@
-use Rattle.folds.specs.Kit.{kit}
 use borrow.Author.Tests.{not-true, not-false}
 use Rattle.eigen.proofs.Whole.{refused, of-zero, divisible, swept}
 use mathlib.Core.Path.{ap}

@@ -4,8 +4,8 @@ use Rattle.folds.specs.Marks.{place-few}
 use Rattle.factor_update.specs.Held.{tested, join_one}
 use Rattle.factor_update.proofs.join_one.Goals as goal
 
-pub positive_definite-ok-requires : goal.positive_definite-ok-requires
-positive_definite-ok-requires c =
+pub positive_definite-requires : goal.positive_definite-requires
+positive_definite-requires c =
     let few : c.place-k.result ≤ c.args.originals = rw c.place-k.ensures
     (place-few c.joined-next.result c.args.originals) in
     omega (arith, area few few, c.requires.1.l_holds)
@@ -30,16 +30,31 @@ pub place-k-requires : goal.place-k-requires
 unfolding join_one tested pick
 place-k-requires c = omega (arith, c.requires.0.few)
 
-pub returns-then-wanted-i : goal.returns-then-wanted-i
+pub returns-then-positive_definite : goal.returns-then-positive_definite
 unfolding join_one tested pick
-returns-then-wanted-i c =
+returns-then-positive_definite c =
     rw (
       c.if-wanted-i.true,
       c.if-s-i.false,
       ← c.joined-next.ensures,
       ← c.place-k.ensures,
-      ← c.positive_definite-ok.ensures,
+      ← c.positive_definite.ensures,
+      c.if-positive_definite.true,
     )
+
+pub returns-then-wanted-i : goal.returns-then-wanted-i
+unfolding join_one tested pick
+returns-then-wanted-i c = (
+  c.joined-next.result,
+  rw (
+    c.if-wanted-i.true,
+    c.if-s-i.false,
+    ← c.joined-next.ensures,
+    ← c.place-k.ensures,
+    ← c.positive_definite.ensures,
+    c.if-positive_definite.false,
+  ),
+)
 
 pub returns : goal.returns
 unfolding join_one tested pick

@@ -1,35 +1,22 @@
 use Rattle.folds.specs.Kit.{ap, arith, rules, walk_call, walk_stop, walks}
 use Rattle.folds.specs.Fold.{walk_end}
-use borrow.Author.Tests.{not-true, not-false}
 use Rattle.factor_update.specs.Held.{joins, factor_of}
 use Rattle.factor_update.proofs.joins.Goals as goal
 
 ruleset kit = (walks, rules)
 
-pub join_one-turn-requires : goal.join_one-turn-requires
-join_one-turn-requires c =
+pub join_one-requires : goal.join_one-requires
+join_one-requires c =
     let p = c.requires in
     (p.0, record { few = p.1.few; l_holds = omega (arith, p.1.l_holds); room_holds = omega (arith, p.1.room_holds) }, omega arith)
 
-pub returns-then-not-turn : goal.returns-then-not-turn
+pub returns-in-None : goal.returns-in-None
 unfolding joins factor_of
-returns-then-not-turn c =
-    let w = not-true c.join_one-turn.result.ok c.if-not-turn.true in
-    ap factor_of
-    (walk_stop _ _ _ _ c.loop-i-test.true
-    c.loop-i.invariant.3
-    (rw w at c.join_one-turn.ensures))
+returns-in-None c = ap factor_of (walk_stop _ _ _ _ c.loop-i-test.true c.loop-i.invariant.3 c.in-None.ensures.1)
 
 pub loop-i-preserved : goal.loop-i-preserved
 unfolding joins factor_of
-loop-i-preserved c =
-    let w = not-false c.join_one-turn.result.ok c.if-not-turn.false in (
-      omega arith,
-      omega arith,
-      omega arith,
-      walk_call _ _ _ c.loop-i.invariant.3
-          (rw w at c.join_one-turn.ensures),
-    )
+loop-i-preserved c = (omega arith, omega arith, omega arith, walk_call _ _ _ c.loop-i.invariant.3 c.in-Some.ensures)
 
 pub returns : goal.returns
 unfolding joins factor_of

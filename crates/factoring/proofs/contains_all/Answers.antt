@@ -14,20 +14,20 @@ ruleset kit = (alls, rules)
 pub returns-then-not-listed-i : goal.returns-then-not-listed-i
 unfolding contains_all
 returns-then-not-listed-i c =
-    let t = c.loop-t.t in
-    let h = c.loop-t-test.true in
+    let t = c.loop-i.i-index in
+    let h = c.loop-i-test.true in
     all_stop _ _ _ h
     (rw (
       ← marked-marks Sizes.originals c.args.indices.now (index c.args.s.now t) (c.requires.1 t h),
       ← c.marks-listed.ensures,
     ) (not-true _ (ap not c.if-not-listed-i.true)))
 
-pub loop-t-preserved : goal.loop-t-preserved
-loop-t-preserved c =
-    let t = c.loop-t.t in
-    let h = c.loop-t-test.true in (
+pub loop-i-preserved : goal.loop-i-preserved
+loop-i-preserved c =
+    let t = c.loop-i.i-index in
+    let h = c.loop-i-test.true in (
       search rules,
-      all_turn _ _ c.loop-t.invariant.1
+      all_turn _ _ c.loop-i.invariant.1
           (rw (
             ← marked-marks Sizes.originals c.args.indices.now (index c.args.s.now t) (c.requires.1 t h),
             ← c.marks-listed.ensures,
@@ -40,11 +40,11 @@ marks-listed-requires c = c.requires.0
 
 pub bounds-listed-i : goal.bounds-listed-i
 unfolding contains_all
-bounds-listed-i c = c.requires.1 c.loop-t.t c.loop-t-test.true
+bounds-listed-i c = c.requires.1 c.loop-i.i-index c.loop-i-test.true
 
-pub loop-t-init : goal.loop-t-init
+pub loop-i-init : goal.loop-i-init
 unfolding contains_all
-loop-t-init c = search kit
+loop-i-init c = search kit
 
 pub returns : goal.returns
 unfolding contains_all

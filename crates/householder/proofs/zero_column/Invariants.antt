@@ -1,7 +1,6 @@
-use Rattle.folds.specs.Kit.{◌≡◌, true, ◌≤◌, all}
-use lib.Ieee.{eq}
-use Rattle.arith.specs.Float.{f0, at}
+use Rattle.folds.specs.Kit.{◌≡◌, true}
+use Rattle.householder.specs.Householder.{zero_column}
 use Rattle.householder.proofs.zero_column.Given as goal
 
-abbrev pub invariant-loop-i : goal.invariant-loop-i
-invariant-loop-i l = (l.i ≤ l.h) × (true ≡ all l.i (λ t. eq (at l.x t) f0))
+abbrev pub invariant-loop-v : goal.invariant-loop-v
+invariant-loop-v l = true ≡ zero_column l.v-index l.x

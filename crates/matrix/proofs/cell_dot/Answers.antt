@@ -1,17 +1,10 @@
-use Rattle.folds.specs.Kit.{◌≡◌, ◌-◌, ◌≤◌, arith, fold, fold_call, kit}
-use Rattle.arith.specs.Float.{fadd, fmul, f0}
-use Rattle.columns.specs.Columns.{cell}
-use Rattle.matrix.specs.Matrix.{cell_dot}
+use Rattle.std.proofs.Common.{◌∙◌, arith}
+use Rattle.columns.specs.Laws.{length-column}
+use Rattle.matrix.specs.Laws.{cell-dot}
 use Rattle.matrix.proofs.cell_dot.Goals as goal
 
-pub loop-k-preserved : goal.loop-k-preserved
-unfolding cell_dot
-loop-k-preserved c = (omega arith, fold_call _ _ _ c.loop-k.invariant.1 (rw (c.get.ensures, c.get-in-loop-k.ensures)))
-
-pub loop-k-init : goal.loop-k-init
-unfolding cell_dot
-loop-k-init c = search kit
+pub row_dot-requires : goal.row_dot-requires
+row_dot-requires c = let x = c.requires in rw (c.column.ensures, length-column) (x.0, x.2, omega arith)
 
 pub returns : goal.returns
-unfolding cell_dot
-returns c = search kit
+returns c = let x = c.args in c.row_dot.ensures ∙ rw c.column.ensures (cell-dot x.n x.p x.a.now x.b.now x.i x.j)

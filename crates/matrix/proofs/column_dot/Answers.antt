@@ -1,17 +1,10 @@
-use Rattle.folds.specs.Kit.{◌≡◌, ◌-◌, ◌≤◌, arith, fold, fold_call, kit}
-use Rattle.arith.specs.Float.{fadd, fmul, f0, at}
-use Rattle.columns.specs.Columns.{cell}
-use Rattle.matrix.specs.Matrix.{column_dot}
+use Rattle.std.proofs.Common.{◌∙◌, arith}
+use Rattle.columns.specs.Laws.{length-column}
+use Rattle.matrix.specs.Laws.{column-dot}
 use Rattle.matrix.proofs.column_dot.Goals as goal
 
-pub loop-i-preserved : goal.loop-i-preserved
-unfolding column_dot
-loop-i-preserved c = (omega arith, fold_call _ _ _ c.loop-i.invariant.1 (rw c.get.ensures))
-
-pub loop-i-init : goal.loop-i-init
-unfolding column_dot
-loop-i-init c = search kit
+pub dot-requires : goal.dot-requires
+dot-requires c = rw (c.column.ensures, length-column) (omega arith, omega arith)
 
 pub returns : goal.returns
-unfolding column_dot
-returns c = search kit
+returns c = c.dot.ensures ∙ rw c.column.ensures (column-dot c.args.n c.args.a.now c.args.x.now c.args.j)

@@ -1,23 +1,8 @@
-use Rattle.folds.specs.Kit.{◌≡◌, ◌-◌, ◌≤◌, arith, length, fold}
-use Rattle.arith.specs.Float.{fdiv, at}
-use Rattle.columns.specs.Columns.{cell, put_column}
+use Rattle.std.proofs.Common.{arith, rules}
+use Rattle.columns.specs.Laws.{over_m_by}
 use Rattle.matrix.specs.Matrix.{rows_divided}
-use Rattle.columns.specs.Laws.{columns_edit, matrix-kit}
 use Rattle.matrix.proofs.divide_rows.Goals as goal
-
-pub loop-j-preserved : goal.loop-j-preserved
-unfolding rows_divided
-loop-j-preserved c =
-    let x = c.args in (
-      omega arith,
-      omega arith,
-      columns_edit _ (λ i t v. fdiv v (at x.by.now i)) x.a.now _ c.loop-j.invariant.2 c.divide_rows_column.ensures,
-    )
-
-pub loop-j-init : goal.loop-j-init
-unfolding rows_divided
-loop-j-init c = search matrix-kit
 
 pub returns : goal.returns
 unfolding rows_divided
-returns c = search matrix-kit
+returns c = let w = c.write_entries.ensures in over_m_by _ _ _ _ _ (omega arith) w.length (λ i j p q. let e = w.written i j p q in search rules) w.kept

@@ -1,17 +1,8 @@
-use Rattle.folds.specs.Kit.{◌≡◌, ◌-◌, ◌≤◌, length, fold}
-use Rattle.columns.specs.Columns.{put_column}
-use Rattle.columns.specs.Laws.{matrix-kit}
-use Rattle.matrix.specs.Matrix.{cell_dot, mul}
+use Rattle.std.proofs.Common.{arith, rules}
+use Rattle.columns.specs.Laws.{over_m_by}
+use Rattle.matrix.specs.Matrix.{mul}
 use Rattle.matrix.proofs.mul.Goals as goal
-
-pub loop-j-init : goal.loop-j-init
-unfolding mul
-loop-j-init c = search matrix-kit
-
-pub loop-j-preserved : goal.loop-j-preserved
-unfolding mul
-loop-j-preserved c = search matrix-kit
 
 pub returns : goal.returns
 unfolding mul
-returns c = search matrix-kit
+returns c = let w = c.write_entries.ensures in over_m_by _ _ _ _ _ (omega arith) w.length (λ i j p q. let e = w.written i j p q in search rules) w.kept

@@ -1,6 +1,4 @@
-use Rattle.folds.specs.Kit.{◌≡◌, ◌-◌, ◌≤◌, arith, fold, fold_call, kit}
-use Rattle.arith.specs.Float.{fadd, f0}
-use Rattle.columns.specs.Columns.{cell}
+use Rattle.folds.specs.Kit.{arith, fold_call, kit}
 use Rattle.matrix.specs.Matrix.{trace}
 use Rattle.matrix.proofs.trace.Goals as goal
 

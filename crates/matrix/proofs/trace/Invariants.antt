@@ -1,7 +1,6 @@
-use Rattle.folds.specs.Kit.{◌≡◌, ◌-◌, ◌≤◌, arith, fold, fold_call, kit}
+use Rattle.folds.specs.Kit.{◌≡◌, ◌≤◌, fold}
 use Rattle.arith.specs.Float.{fadd, f0}
 use Rattle.columns.specs.Columns.{cell}
-use Rattle.matrix.specs.Matrix.{trace}
 use Rattle.matrix.proofs.trace.Given as goal
 
 abbrev pub invariant-loop-i : goal.invariant-loop-i

@@ -1,4 +1,4 @@
-use Rattle.folds.specs.Kit.{arith, kit}
+use Rattle.folds.specs.Kit.{arith}
 use Rattle.columns.specs.Laws.{length-column}
 use Rattle.pivot_choice.specs.PivotChoice.{column_norm}
 use Rattle.pivot_choice.proofs.column_norm.Goals as goal

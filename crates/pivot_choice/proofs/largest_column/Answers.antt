@@ -1,17 +1,16 @@
-use Rattle.folds.specs.Kit.{◌≡◌, ◌-◌, ◌≤◌, kit}
-use Rattle.folds.specs.Best.{best_of}
-use Rattle.pivot_choice.specs.PivotChoice.{offered, as_best, at_least}
-use Rattle.pivot_choice.specs.Laws.{largest_end}
+use Rattle.folds.specs.Kit.{kit}
+use Rattle.folds.specs.Best.{best_of, last_largest}
+use Rattle.pivot_choice.specs.PivotChoice.{largest_column}
 use Rattle.pivot_choice.proofs.largest_column.Goals as goal
 
 pub returns : goal.returns
-unfolding as_best best_of
-returns c = largest_end _ _ _ _ (search kit)
+unfolding largest_column last_largest best_of
+returns c = search kit
 
 pub loop-j-init : goal.loop-j-init
-unfolding as_best best_of
+unfolding best_of
 loop-j-init c = search kit
 
 pub loop-j-preserved : goal.loop-j-preserved
-unfolding as_best best_of
+unfolding best_of
 loop-j-preserved c = search kit

@@ -1,7 +1,5 @@
-use Rattle.folds.specs.Kit.{◌≡◌, ◌-◌, ◌≤◌, arith, fold, fold_call, kit}
-use Rattle.pivot_choice.specs.PivotChoice.{column_norm, largest_norm}
-use Rattle.arith.specs.Float.{f0}
-use Rattle.arith.specs.Scalar.{max as fmax}
+use Rattle.folds.specs.Kit.{arith, fold_call, kit}
+use Rattle.pivot_choice.specs.PivotChoice.{largest_norm}
 use Rattle.pivot_choice.proofs.largest_norm.Goals as goal
 
 pub loop-j-preserved : goal.loop-j-preserved

@@ -1,5 +1,5 @@
-use Rattle.folds.specs.Kit.{◌≡◌, ◌-◌, ◌≤◌, arith, fold, fold_call, kit}
-use Rattle.pivot_choice.specs.PivotChoice.{column_norm, largest_norm}
+use Rattle.folds.specs.Kit.{◌≡◌, ◌≤◌, fold}
+use Rattle.pivot_choice.specs.PivotChoice.{column_norm}
 use Rattle.arith.specs.Float.{f0}
 use Rattle.arith.specs.Scalar.{max as fmax}
 use Rattle.pivot_choice.proofs.largest_norm.Given as goal

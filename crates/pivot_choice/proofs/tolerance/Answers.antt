@@ -1,7 +1,6 @@
-use Rattle.folds.specs.Kit.{kit}
 use Rattle.pivot_choice.specs.PivotChoice.{tolerance}
 use Rattle.pivot_choice.proofs.tolerance.Goals as goal
 
 pub returns : goal.returns
 unfolding tolerance
-returns c = rw (c.largest_norm.ensures, c.from_usize.ensures, c.larger_of.ensures)
+returns c = rw (c.largest_norm.ensures, c.from_usize.ensures, c.max.ensures)

@@ -6,15 +6,12 @@ use Rattle.pivoting.specs.Pivoting.{state_of, pivot_step, choose}
 use Rattle.pivoting.proofs.pivot_step.Goals as goal
 use Rattle.pivoting.proofs.pivot_step.Goals.{Start}
 
-marks : (c : Start) → length c.args.pivots.remaining ≡ Sizes.columns
+marks : (c : Start) → length c.args.pivots.now.remaining ≡ Sizes.columns
 marks c = search rules
-
-pub slice_bounds-remaining-end : goal.slice_bounds-remaining-end
-slice_bounds-remaining-end c = let s = c.before.before.before.before.before in omega (arith, c.requires.5, marks s)
 
 pub slice_bounds-largest_column-end : goal.slice_bounds-largest_column-end
 slice_bounds-largest_column-end c =
-    let s = c.before.before.before.before.before.before in sym (length-take-le _ _ (omega (arith, c.requires.5, marks s)))
+    let s = (goal.at.slice_bounds-largest_column-end c).Start in sym (length-take-le _ _ (omega (arith, c.requires.5, marks s)))
 
 pub returns-in_default : goal.returns-in_default
 unfolding state_of pivot_step choose pick
@@ -28,22 +25,22 @@ pub returns-then-norm-tolerance : goal.returns-then-norm-tolerance
 unfolding state_of pivot_step choose pick
 returns-then-norm-tolerance c =
     record {
-      pivots_after = rw (← c.largest_column-best.ensures, c.in-Found.is, c.if-norm-tolerance.true);
+      pivots_after = rw (← c.largest_column-best.ensures, c.in-Some.is, c.if-norm-tolerance.true);
       rank_value = c.requires.7;
     }
 
-pub taken-next-requires : goal.taken-next-requires
-taken-next-requires c =
+pub taken-requires : goal.taken-requires
+taken-requires c =
     let r = c.requires in
-    let one = found-below _ _ _ _ _ _ (sym c.in-Found.is ∙ c.largest_column-best.ensures) in
+    let one = found-below _ _ _ _ _ _ (sym c.in-Some.is ∙ c.largest_column-best.ensures) in
     (r.0, r.1, r.2, r.3, one, r.4, r.5, r.6, r.7)
 
 pub returns : goal.returns
 unfolding state_of pivot_step choose pick
 returns c =
     record {
-      pivots_after = rw (← c.largest_column-best.ensures, c.in-Found.is, c.if-norm-tolerance.false, ← c.taken-next.ensures.result_after);
-      rank_value = c.taken-next.ensures.rank_value;
+      pivots_after = rw (← c.largest_column-best.ensures, c.in-Some.is, c.if-norm-tolerance.false, ← c.taken.ensures.result_after);
+      rank_value = c.taken.ensures.rank_value;
     }
 
 pub largest_column-best-requires : goal.largest_column-best-requires

@@ -3,32 +3,30 @@ use Rattle.folds.specs.Fold.{ended, walk_end}
 use Rattle.pivoting.specs.Pivoting.{pivoted}
 use Rattle.pivoting.proofs.pivoted.Goals as goal
 
-pub returns-else-turn : goal.returns-else-turn
-unfolding pivoted ended pick
-returns-else-turn c =
-    let step = rw c.if-turn.false at c.pivot_step-turn.ensures.pivots_after in
-    let rank = rw c.if-turn.false at c.pivot_step-turn.ensures.rank_value in
-    record {
-      result_after = ap ended (walk_stop _ _ _ _ c.loop-row-test.true c.loop-row.invariant.5 step);
-      rank_le_p = omega (arith, rank, c.loop-row-test.true);
-    }
+pub loop-row-init : goal.loop-row-init
+loop-row-init c = search (walks, rules)
 
 pub loop-row-preserved : goal.loop-row-preserved
 unfolding pick
 loop-row-preserved c =
     let inv = c.loop-row.invariant in
-    let step = rw c.if-turn.true at c.pivot_step-turn.ensures.pivots_after in
-    let rank = rw c.if-turn.true at c.pivot_step-turn.ensures.rank_value in
+    let step = rw c.if-not-pivot_step.false at c.pivot_step.ensures.pivots_after in
+    let rank = rw c.if-not-pivot_step.false at c.pivot_step.ensures.rank_value in
     (omega arith, omega arith, omega arith, omega arith, rank, walk_call _ _ _ inv.5 step)
 
-pub returns : goal.returns
+pub returns-after-loop-row-clause-result_after : goal.returns-after-loop-row-clause-result_after
 unfolding pivoted ended
-returns c =
+returns-after-loop-row-clause-result_after c =
     let inv = c.loop-row.invariant in
-    record {
-      result_after = ap ended (walk_end _ _ _ _ inv.0 c.loop-row-test.false inv.5);
-      rank_le_p = omega (arith, inv.0, inv.4);
-    }
+    ap ended (walk_end _ _ _ _ inv.0 c.loop-row-test.false inv.5)
 
-pub loop-row-init : goal.loop-row-init
-loop-row-init c = search (walks, rules)
+pub returns-then-not-pivot_step-clause-result_after : goal.returns-then-not-pivot_step-clause-result_after
+unfolding pivoted ended
+returns-then-not-pivot_step-clause-result_after c =
+    let step = rw c.if-not-pivot_step.true at c.pivot_step.ensures.pivots_after in
+    ap ended (walk_stop _ _ _ _ c.loop-row-test.true c.loop-row.invariant.5 step)
+
+pub returns-then-not-pivot_step-clause-rank_le_p : goal.returns-then-not-pivot_step-clause-rank_le_p
+unfolding pick
+returns-then-not-pivot_step-clause-rank_le_p c =
+    let rank = rw c.if-not-pivot_step.true at c.pivot_step.ensures.rank_value in omega (arith, rank, c.loop-row-test.true)

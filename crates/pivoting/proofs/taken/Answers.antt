@@ -1,36 +1,25 @@
-use Rattle.folds.specs.Kit.{◌≡◌, arith, length, rules, sym}
+use Rattle.folds.specs.Kit.{◌≡◌, arith, length, length-set, rules, sym, ap, ◌∙◌}
 use lib.Seq.{length-take-le}
 use Rattle.sizes.specs.Sizes as Sizes
 use Rattle.columns.specs.Laws.{length-column}
 use Rattle.pivoting.specs.Pivoting.{state_of, taken, with_basis}
 use Rattle.pivoting.proofs.taken.Goals as goal
-use Rattle.pivoting.proofs.taken.Goals.{After-divided-y, After-put, After-with_pivot-next}
+use Rattle.pivoting.proofs.taken.Goals.{Start, After-divided-y}
 
 y-length : (c : After-divided-y) → length c.divided-y.result ≡ Sizes.variables
 y-length c = search rules
 
-marks : (c : After-with_pivot-next) → length c.with_pivot-next.result.remaining ≡ Sizes.columns
+marks : (c : Start) → length c.args.pivots.now.remaining ≡ Sizes.columns
 marks c = search rules
-
-pub slice_bounds-with_basis-end : goal.slice_bounds-with_basis-end
-slice_bounds-with_basis-end c =
-    let b10 = (goal.at.slice_bounds-with_basis-end c).After-divided-y in
-    sym (length-take-le _ _ (omega (arith, c.requires, y-length b10)))
-
-pub slice_bounds-remaining-end : goal.slice_bounds-remaining-end
-slice_bounds-remaining-end c =
-    let b9 = (goal.at.slice_bounds-remaining-end c).After-with_pivot-next in
-    omega (arith, c.requires, marks b9)
 
 pub slice_bounds-with_basis-end-2 : goal.slice_bounds-with_basis-end-2
 slice_bounds-with_basis-end-2 c =
-    let b10 = (goal.at.slice_bounds-with_basis-end-2 c).After-with_pivot-next in
-    sym (length-take-le _ _ (omega (arith, c.requires, marks b10)))
+    sym (ap length c.add_pivot.ensures.2 ∙ length-set _ _ _ ∙ length-take-le _ _ (omega (arith, c.requires, marks (goal.at.slice_bounds-with_basis-end-2 c).Start)))
 
 pub returns : goal.returns
 unfolding state_of taken with_basis
 returns c =
-    let next = c.with_pivot-next.ensures in record {
+    let next = c.add_pivot.ensures in record {
       result_after = rw (
         next.0,
         next.1,

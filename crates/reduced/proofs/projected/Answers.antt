@@ -5,7 +5,7 @@ use Rattle.folds.specs.Tab.{taken-over}
 use Rattle.matrix.specs.Laws.{length-mul, length-tr_mul}
 use Rattle.reduced.specs.Reduced.{projected}
 use Rattle.reduced.proofs.projected.Goals as goal
-use Rattle.reduced.proofs.projected.Goals.{After-tr_mul, Start}
+use Rattle.reduced.proofs.projected.Goals.{Start}
 
 -- ZᵀK and ZᵀKZ have at most as many entries as K
 entries_fit : (c : Start) → c.args.d * c.args.n ≤ c.args.n * c.args.n

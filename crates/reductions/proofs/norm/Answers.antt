@@ -1,4 +1,3 @@
-use Rattle.folds.specs.Kit.{rules}
 use Rattle.reductions.specs.Reductions.{norm}
 use Rattle.reductions.proofs.norm.Goals as goal
 

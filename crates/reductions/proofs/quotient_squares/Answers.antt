@@ -1,11 +1,17 @@
-use Rattle.folds.specs.Kit.{◌≡◌, ◌-◌, ◌≤◌, kit}
+use Rattle.std.specs.Prelude.{◌≡◌, take}
+use Rattle.std.specs.List.{fold as list_fold}
+use Rattle.std.specs.Float.Ieee.{nan}
+use Rattle.arith.specs.Float.{fadd, fmul, fdiv, f0}
+use Rattle.std.proofs.iter.Serving.{returning}
+use Rattle.std.proofs.lemmas.Grind.{common_steps}
+use Rattle.std.proofs.Common.{◌∙◌, arith}
 use Rattle.reductions.specs.Reductions.{quotient_squares}
+use Rattle.reductions.specs.Slices.{fold-slice}
 use Rattle.reductions.proofs.quotient_squares.Goals as goal
 
-pub loop-k-init : goal.loop-k-init
+pub returns : goal.returns
 unfolding quotient_squares
-loop-k-init c = search kit
-
-pub loop-k-preserved : goal.loop-k-preserved
-unfolding quotient_squares
-loop-k-preserved c = search kit
+returns c =
+    let x = c.args in
+    let e : c.fold.result ≡ list_fold (λ s v. fadd s (fmul (fdiv v x.by) (fdiv v x.by))) f0 (take x.n x.a.now) = grind (arith, common_steps, returning) in
+    e ∙ fold-slice nan _ f0 x.n x.a.now (omega arith)

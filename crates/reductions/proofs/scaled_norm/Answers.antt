@@ -1,4 +1,5 @@
-use Rattle.folds.specs.Kit.{rules, pick}
+use Rattle.folds.specs.Kit.{pick}
+use Rattle.arith.specs.Methods.{infinite-same}
 use Rattle.reductions.specs.Reductions.{scaled_norm}
 use Rattle.reductions.proofs.scaled_norm.Goals as goal
 
@@ -18,7 +19,8 @@ returns-then-is_infinite c =
       c.if-any_nan.false,
       ← c.amax-largest.ensures,
       c.if-largest.false,
-      ← c.is_infinite.ensures,
+      ← infinite-same,
+      ← c.is_infinite.ensures.value,
       c.if-is_infinite.true,
     )
 
@@ -30,7 +32,8 @@ returns c =
       c.if-any_nan.false,
       ← c.amax-largest.ensures,
       c.if-largest.false,
-      ← c.is_infinite.ensures,
+      ← infinite-same,
+      ← c.is_infinite.ensures.value,
       c.if-is_infinite.false,
       c.sqrt.ensures,
       c.quotient_squares.ensures,

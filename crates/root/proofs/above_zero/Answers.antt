@@ -1,5 +1,4 @@
 -- `root::above_zero` meets its contract, by `proofs/Assembled.antt`.
-use borrow.Author.Rules.{rules}
 use native.Mathlib.Omega.{arith}
 use Prim.Native.Nat.{ℕ}
 use Rattle.root.proofs.Assembled.{asked, below, result_no_nan, result}

@@ -1,19 +1,21 @@
 -- `root::digits` meets its contract, by `proofs/Halves.antt`.
-use borrow.Author.Rules.{rules}
 use native.Mathlib.Omega.{arith}
 use Prim.Native.Nat.{ℕ}
+use mathlib.Core.Path.{sym}
+use Rattle.std.proofs.Common.{add-one}
+use Rattle.root.specs.Isqrt.{isqrt_only}
 use Rattle.root.proofs.Halves.{Half, half, double_pos, square-fits, low-square-fits, remainder_fits, exact, one_less}
 use Rattle.root.proofs.digits.Goals as goal
-use Rattle.root.proofs.digits.Goals.{After-newton-s}
+use Rattle.root.proofs.digits.Goals.{After-isqrt-s}
 
-abbrev M : After-newton-s → ℕ
+abbrev M : After-isqrt-s → ℕ
 M c = c.args.m
 
-abbrev S : After-newton-s → ℕ
-S c = c.newton-s.result
+abbrev S : After-isqrt-s → ℕ
+S c = c.isqrt-s.result
 
-known : (c : After-newton-s) → Half (M c) (S c)
-known c = half (M c) (S c) c.newton-s.ensures c.requires.0 c.requires.1
+known : (c : After-isqrt-s) → Half (M c) (S c)
+known c = half (M c) (S c) (sym (isqrt_only (M c) (S c) (c.isqrt-s.ensures.square_le, rw add-one at c.isqrt-s.ensures.next_square_gt))) c.requires.0 c.requires.1
 
 pub overflow_mul-rest : goal.overflow_mul-rest
 overflow_mul-rest c = record { fits = square-fits (M c) (S c) (known c) }

@@ -1,5 +1,4 @@
 -- `root::guess` meets its contract: its floats are no NaN where their bits are taken.
-use borrow.Author.Rules.{rules}
 use Rattle.root.proofs.Settle.{start_no_nan}
 use Rattle.root.proofs.Cases.{no_nan}
 use Rattle.root.proofs.guess.Goals as goal

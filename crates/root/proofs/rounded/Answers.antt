@@ -1,5 +1,4 @@
 -- `root::rounded` meets its contract: the 54 digits and one fit.
-use borrow.Author.Rules.{rules}
 use native.Mathlib.Omega.{arith}
 use Prim.Native.Nat.{◌<◌, ◌^◌}
 use Rattle.root.proofs.Settle.{root-fits}

@@ -1,5 +1,4 @@
 -- `root::scaled` meets its contract, by `proofs/Shift.antt`.
-use borrow.Author.Rules.{rules}
 use native.Mathlib.Omega.{arith}
 use Prim.Native.Nat.{ℕ, ◌<◌, ◌^◌}
 use Rattle.root.proofs.Shift.{zeros, low_scales, high_scales}

@@ -1,5 +1,4 @@
 -- `root::settled` meets its contract, by `proofs/Settle.antt`.
-use borrow.Author.Rules.{rules}
 use native.Mathlib.Omega.{arith}
 use Rattle.root.proofs.Settle.{same, above, below}
 use Rattle.root.proofs.settled.Goals as goal

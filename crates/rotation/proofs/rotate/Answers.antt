@@ -1,4 +1,4 @@
-use Rattle.folds.specs.Kit.{◌≡◌, true, false, ℕ, pick, kit}
+use Rattle.folds.specs.Kit.{◌≡◌, true, false, ℕ, pick}
 use mathlib.Core.List.{List}
 use lib.Ieee.{Float, eq}
 use Rattle.folds.specs.Part.{two}

@@ -1,5 +1,5 @@
-use Rattle.folds.specs.Kit.{◌≡◌, ◌-◌, ◌≤◌, length, fold, kit}
-use Rattle.rotation.specs.Rotation.{turn_columns, turn_in_row}
+use Rattle.folds.specs.Kit.{◌≡◌, ◌≤◌, length, fold}
+use Rattle.rotation.specs.Rotation.{turn_in_row}
 use Rattle.rotation.proofs.turn_columns.Given as goal
 
 abbrev pub invariant-loop-k : goal.invariant-loop-k

@@ -1,4 +1,4 @@
-use Rattle.folds.specs.Kit.{◌≡◌, ◌-◌, ◌≤◌, length, fold, kit}
+use Rattle.folds.specs.Kit.{kit}
 use Rattle.rotation.specs.Rotation.{turn_rows, turn_in_column}
 use Rattle.rotation.proofs.turn_rows.Goals as goal
 
@@ -7,7 +7,7 @@ unfolding turn_rows
 loop-k-init c = search kit
 
 pub loop-k-preserved : goal.loop-k-preserved
-unfolding turn_rows
+unfolding turn_rows turn_in_column
 loop-k-preserved c = search kit
 
 pub returns : goal.returns

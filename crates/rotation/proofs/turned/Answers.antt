@@ -1,4 +1,3 @@
-use Rattle.folds.specs.Kit.{kit}
 use Rattle.rotation.specs.Rotation.{turned}
 use Rattle.rotation.proofs.turned.Goals as goal
 

@@ -10,13 +10,13 @@ pub loop-k-init : goal.loop-k-init
 unfolding all_multipliers
 loop-k-init c = (omega arith, take_zeros _ _ (le_refl Sizes.columns) ∙ fold-none _ _)
 
-pub offset_bounds-all-kept : goal.offset_bounds-all-kept
+pub offset_bounds-all-j : goal.offset_bounds-all-j
 unfolding all_multipliers
-offset_bounds-all-kept c = omega (arith, c.requires.1 c.loop-k.k c.loop-k-test.true)
+offset_bounds-all-j c = omega (arith, c.requires.1 c.loop-k.k c.loop-k-test.true)
 
-pub bounds-all-kept : goal.bounds-all-kept
+pub bounds-all-j : goal.bounds-all-j
 unfolding all_multipliers
-bounds-all-kept c = omega (arith, c.requires.1 c.loop-k.k c.loop-k-test.true)
+bounds-all-j c = omega (arith, c.requires.1 c.loop-k.k c.loop-k-test.true)
 
 pub loop-k-preserved : goal.loop-k-preserved
 unfolding all_multipliers

@@ -9,19 +9,19 @@ pub get-requires : goal.get-requires
 unfolding any_entry
 get-requires c =
     let p = c.requires in
-    (p.0.entries, p.0.below c.loop-t.t c.loop-t-test.true, p.1)
+    (p.0.entries, p.0.below c.loop-i.i-index c.loop-i-test.true, p.1)
 
 pub returns-then-get : goal.returns-then-get
 unfolding any_entry
-returns-then-get c = some_stop _ _ _ c.loop-t-test.true (rw (← c.get.ensures) c.if-get.true)
+returns-then-get c = some_stop _ _ _ c.loop-i-test.true (rw (← c.get.ensures) c.if-get.true)
 
-pub loop-t-preserved : goal.loop-t-preserved
+pub loop-i-preserved : goal.loop-i-preserved
 unfolding any_entry
-loop-t-preserved c = (omega arith, some_turn _ _ c.loop-t.invariant.1 (rw (← c.get.ensures) c.if-get.false))
+loop-i-preserved c = (omega arith, some_turn _ _ c.loop-i.invariant.1 (rw (← c.get.ensures) c.if-get.false))
 
-pub loop-t-init : goal.loop-t-init
+pub loop-i-init : goal.loop-i-init
 unfolding any_entry
-loop-t-init c = search kit
+loop-i-init c = search kit
 
 pub returns : goal.returns
 unfolding any_entry

@@ -5,5 +5,5 @@ use Rattle.columns.specs.Columns.{cell}
 use Rattle.matrix.specs.Matrix.{index}
 use Rattle.slack_rows.proofs.any_entry.Given as goal
 
-abbrev pub invariant-loop-t : goal.invariant-loop-t
-invariant-loop-t l = (l.t ≤ length l.solved) × (false ≡ some l.t (λ k. ne (cell l.e l.n (index l.solved k) l.j) f0))
+abbrev pub invariant-loop-i : goal.invariant-loop-i
+invariant-loop-i l = (l.i-index ≤ length l.solved) × (false ≡ some l.i-index (λ k. ne (cell l.e l.n (index l.solved k) l.j) f0))

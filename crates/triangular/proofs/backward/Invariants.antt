@@ -1,6 +1,7 @@
-use Rattle.folds.specs.Kit.{◌≡◌, ◌-◌, ◌≤◌, length, fold, kit}
-use Rattle.triangular.specs.Triangular.{unknown_back, backward}
+use Rattle.std.specs.Prelude.{◌≡◌, ◌-◌}
+use Rattle.folds.specs.Fold.{fold}
+use Rattle.triangular.specs.Triangular.{unknown_back}
 use Rattle.triangular.proofs.backward.Given as goal
 
-abbrev pub invariant-loop-t : goal.invariant-loop-t
-invariant-loop-t l = (l.t ≤ l.n) × (length l.x ≡ length l.initial.x) × (l.x ≡ fold l.t (λ k. unknown_back l.l l.n (l.n - 1 - k)) l.initial.x)
+abbrev pub invariant-loop-i : goal.invariant-loop-i
+invariant-loop-i l = l.x ≡ fold (l.n - l.i) (λ t. unknown_back l.l l.n (l.n - 1 - t)) l.initial.x

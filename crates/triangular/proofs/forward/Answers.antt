@@ -1,4 +1,4 @@
-use Rattle.folds.specs.Kit.{◌≡◌, ◌-◌, ◌≤◌, arith, length, length-set, fold_call, kit}
+use Rattle.folds.specs.Kit.{arith, length-set, fold_call, kit}
 use Rattle.triangular.specs.Triangular.{forward, unknown}
 use Rattle.triangular.proofs.forward.Goals as goal
 

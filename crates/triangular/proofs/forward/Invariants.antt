@@ -1,5 +1,5 @@
-use Rattle.folds.specs.Kit.{◌≡◌, ◌-◌, ◌≤◌, arith, length, length-set, fold_call, kit}
-use Rattle.triangular.specs.Triangular.{forward, unknown}
+use Rattle.folds.specs.Kit.{◌≡◌, ◌≤◌, length}
+use Rattle.triangular.specs.Triangular.{forward}
 use Rattle.triangular.proofs.forward.Given as goal
 
 abbrev pub invariant-loop-i : goal.invariant-loop-i

@@ -1,8 +1,4 @@
-use Rattle.folds.specs.Kit.{◌≡◌, true, ◌-◌, ◌≤◌, rules, all, alls}
-use mathlib.Core.Bool.{not}
-use lib.Ieee.{eq}
-use Rattle.arith.specs.Float.{f0}
-use Rattle.columns.specs.Columns.{cell}
+use Rattle.folds.specs.Kit.{rules, alls}
 use Rattle.folds.specs.Fold.{all_stop, all_turn}
 use Rattle.triangular.specs.Triangular.{regular}
 use Rattle.triangular.proofs.regular.Goals as goal

@@ -1,4 +1,3 @@
-use Rattle.folds.specs.Kit.{kit}
 use Rattle.triangular.specs.Triangular.{solve}
 use Rattle.triangular.proofs.solve.Goals as goal
 

@@ -1,4 +1,4 @@
-use Rattle.folds.specs.Kit.{◌+◌, ◌*◌, ◌≤◌, arith, length, kit, col_end}
+use Rattle.folds.specs.Kit.{◌+◌, ◌*◌, ◌≤◌, arith, length, col_end}
 use Rattle.folds.specs.Part.{part, with_part, with_out, on_part_out}
 use Rattle.triangular.specs.Triangular.{solve_column}
 use Rattle.triangular.proofs.solve_column.Goals as goal

@@ -1,5 +1,5 @@
-use Rattle.folds.specs.Kit.{◌≡◌, true, ◌-◌, ◌≤◌, length, rules, walk, out, walks, walk_call, walk_stop}
-use Rattle.triangular.specs.Triangular.{solve_column, solve_lower_columns}
+use Rattle.folds.specs.Kit.{rules, walks, walk_call, walk_stop}
+use Rattle.triangular.specs.Triangular.{solve_lower_columns}
 use borrow.Author.Tests.{not-true, not-false}
 use mathlib.Core.Path.{ap}
 use mathlib.Core.Bool.{not}

@@ -1,6 +1,5 @@
-use Rattle.folds.specs.Kit.{◌≡◌, true, ◌-◌, ◌≤◌, length, rules, walk, out, walks, walk_call, walk_stop}
-use Rattle.triangular.specs.Triangular.{solve_column, solve_lower_columns}
-use borrow.Author.Tests.{not-true, not-false}
+use Rattle.folds.specs.Kit.{◌≡◌, true, ◌≤◌, length, walk, out}
+use Rattle.triangular.specs.Triangular.{solve_column}
 use Rattle.triangular.proofs.solve_lower_columns.Given as goal
 
 abbrev pub invariant-loop-j : goal.invariant-loop-j

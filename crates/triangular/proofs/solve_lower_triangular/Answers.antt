@@ -1,4 +1,4 @@
-use Rattle.folds.specs.Kit.{pick, kit}
+use Rattle.folds.specs.Kit.{pick}
 use Rattle.triangular.specs.Triangular.{solve_lower}
 use Rattle.triangular.proofs.solve_lower_triangular.Goals as goal
 

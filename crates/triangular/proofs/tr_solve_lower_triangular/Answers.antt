@@ -1,4 +1,4 @@
-use Rattle.folds.specs.Kit.{pick, kit}
+use Rattle.folds.specs.Kit.{pick}
 use Rattle.triangular.specs.Triangular.{tr_solve_lower}
 use Rattle.triangular.proofs.tr_solve_lower_triangular.Goals as goal
 

@@ -1,4 +1,3 @@
-use Rattle.folds.specs.Kit.{kit}
 use Rattle.triangular.specs.Triangular.{unknown_back}
 use Rattle.triangular.proofs.unknown_back.Goals as goal
 

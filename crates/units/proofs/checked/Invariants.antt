@@ -1,6 +1,4 @@
-use Rattle.folds.specs.Kit.{◌≡◌, ◌-◌, ◌≤◌, true, sym, ◌∙◌, arith, length, rules, alls}
-use Rattle.folds.specs.Fold.{all_stop, all_turn}
-use Rattle.columns.specs.Laws.{length-column}
+use Rattle.folds.specs.Kit.{◌≡◌, ◌≤◌, true}
 use Rattle.units.specs.Units.{checked}
 use Rattle.units.proofs.checked.Given as goal
 

@@ -1,4 +1,4 @@
-use Rattle.folds.specs.Kit.{rules, pick}
+use Rattle.folds.specs.Kit.{pick}
 use Rattle.units.specs.Units.{column_met, largest_of}
 use Rattle.units.proofs.column_met.Goals as goal
 

@@ -1,4 +1,3 @@
-use Rattle.folds.specs.Kit.{rules}
 use lib.Ieee.{nan}
 use Rattle.columns.specs.Laws.{length-columns_amax}
 use Rattle.folds.specs.Tab.{taken_edit}

@@ -1,4 +1,3 @@
-use Rattle.folds.specs.Kit.{rules}
 use Rattle.units.specs.Units.{diagonal_scale}
 use Rattle.units.proofs.diagonal_scale.Goals as goal
 

@@ -1,4 +1,4 @@
-use Rattle.folds.specs.Kit.{rules, taken-tab}
+use Rattle.folds.specs.Kit.{taken-tab}
 use Rattle.units.specs.Units.{diagonal_scales}
 use Rattle.units.proofs.diagonal_scales.Goals as goal
 

@@ -1,4 +1,4 @@
-use Rattle.folds.specs.Kit.{rules, pick}
+use Rattle.folds.specs.Kit.{pick}
 use Rattle.units.specs.Units.{meets, residual, size}
 use Rattle.units.proofs.meets.Goals as goal
 

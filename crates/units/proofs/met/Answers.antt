@@ -1,4 +1,4 @@
-use Rattle.folds.specs.Kit.{sym, arith, length, rules}
+use Rattle.folds.specs.Kit.{sym, arith}
 use lib.Seq.{length-take-le}
 use Rattle.units.specs.Units.{met}
 use Rattle.units.proofs.met.Goals as goal

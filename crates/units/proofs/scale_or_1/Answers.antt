@@ -1,4 +1,4 @@
-use Rattle.folds.specs.Kit.{rules, pick}
+use Rattle.folds.specs.Kit.{pick}
 use Rattle.units.specs.Units.{scale_or1}
 use Rattle.units.proofs.scale_or_1.Goals as goal
 

@@ -1,16 +1,17 @@
-use Rattle.folds.specs.Kit.{◌≡◌, ◌-◌, ◌≤◌, fold, kit}
-use Rattle.arith.specs.Float.{fadd, fdiv, f0, at}
+use Rattle.std.specs.Prelude.{◌≡◌, take}
+use Rattle.std.specs.List.{fold as list_fold}
+use Rattle.std.specs.Float.Ieee.{nan}
+use Rattle.std.proofs.iter.Serving.{returning}
+use Rattle.std.proofs.lemmas.Grind.{common_steps}
+use Rattle.std.proofs.Common.{◌∙◌, arith}
+use Rattle.arith.specs.Float.{fadd, fdiv, f0}
+use Rattle.reductions.specs.Slices.{fold-slice}
 use Rattle.units.specs.Units.{sum_quotients}
 use Rattle.units.proofs.sum_quotients.Goals as goal
 
-pub loop-i-init : goal.loop-i-init
-unfolding sum_quotients
-loop-i-init c = search kit
-
-pub loop-i-preserved : goal.loop-i-preserved
-unfolding sum_quotients
-loop-i-preserved c = search kit
-
 pub returns : goal.returns
 unfolding sum_quotients
-returns c = search kit
+returns c =
+    let x = c.args in
+    let e : c.fold.result ≡ list_fold (λ s t. fadd s (fdiv t x.by)) f0 (take x.n x.terms.now) = grind (arith, common_steps, returning) in
+    e ∙ fold-slice nan _ f0 x.n x.terms.now (omega arith)

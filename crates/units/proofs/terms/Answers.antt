@@ -1,4 +1,4 @@
-use Rattle.folds.specs.Kit.{rules, taken-tab}
+use Rattle.folds.specs.Kit.{taken-tab}
 use Rattle.units.specs.Units.{terms}
 use Rattle.units.proofs.terms.Goals as goal
 

@@ -1,4 +1,3 @@
-use Rattle.folds.specs.Kit.{rules}
 use Rattle.matrix.specs.Laws.{length-columns_divided}
 use Rattle.matrix.specs.InPlace.{rows-divided}
 use Rattle.units.specs.Units.{units_e}

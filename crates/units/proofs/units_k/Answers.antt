@@ -1,4 +1,3 @@
-use Rattle.folds.specs.Kit.{rules}
 use Rattle.matrix.specs.Laws.{length-rows_divided}
 use Rattle.matrix.specs.InPlace.{columns-divided}
 use Rattle.units.specs.Units.{units_k}

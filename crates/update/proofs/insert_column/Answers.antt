@@ -1,4 +1,4 @@
-use Rattle.folds.specs.Kit.{sym, arith, rules}
+use Rattle.folds.specs.Kit.{sym, arith}
 use lib.Seq.{length-take-le}
 use Rattle.update.specs.Same.{join-copy}
 use Rattle.update.proofs.insert_column.Goals as goal

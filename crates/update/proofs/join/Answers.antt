@@ -1,4 +1,4 @@
-use Rattle.folds.specs.Kit.{ap, ◌∙◌, kit}
+use Rattle.folds.specs.Kit.{ap, ◌∙◌}
 use Rattle.vector.specs.Laws.{over-copy}
 use Rattle.rank_one.specs.RankOne.{factor_of}
 use Rattle.update.specs.Update.{join}

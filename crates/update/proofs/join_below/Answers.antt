@@ -1,4 +1,4 @@
-use Rattle.folds.specs.Kit.{◌≡◌, ◌+◌, ◌-◌, ◌≤◌, arith, length, length-set, rules, span, spans, span_call}
+use Rattle.folds.specs.Kit.{arith, length-set, rules, spans, span_call}
 use Rattle.update.specs.Update.{join_below}
 use Rattle.update.proofs.join_below.Goals as goal
 

@@ -1,4 +1,3 @@
-use Rattle.folds.specs.Kit.{kit}
 use Rattle.update.specs.Update.{join_diagonal}
 use Rattle.update.proofs.join_diagonal.Goals as goal
 

@@ -1,17 +1,10 @@
-use Rattle.folds.specs.Kit.{◌≡◌, ◌+◌, ◌-◌, ◌≤◌, length, fold}
-use Rattle.columns.specs.Columns.{put_column}
-use Rattle.columns.specs.Laws.{matrix-kit}
-use Rattle.update.specs.Update.{joined_entry, joined}
+use Rattle.std.proofs.Common.{arith, rules}
+use Rattle.columns.specs.Laws.{over_m_by}
+use Rattle.update.specs.Update.{joined}
 use Rattle.update.proofs.joined.Goals as goal
-
-pub loop-j-init : goal.loop-j-init
-unfolding joined
-loop-j-init c = search matrix-kit
-
-pub loop-j-preserved : goal.loop-j-preserved
-unfolding joined
-loop-j-preserved c = search matrix-kit
 
 pub returns : goal.returns
 unfolding joined
-returns c = search matrix-kit
+returns c =
+    let w = c.write_entries.ensures in
+    over_m_by _ _ _ _ _ (omega arith) w.length (λ i j p q. let e = w.written i j p q in search rules) w.kept

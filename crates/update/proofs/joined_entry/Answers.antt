@@ -1,4 +1,4 @@
-use Rattle.folds.specs.Kit.{arith, pick, kit}
+use Rattle.folds.specs.Kit.{arith, pick}
 use borrow.Author.Tests.{eq-eqb, ne_eqb}
 use Rattle.update.specs.Update.{joined_entry}
 use Rattle.update.proofs.joined_entry.Goals as goal

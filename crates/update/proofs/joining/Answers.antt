@@ -1,4 +1,3 @@
-use Rattle.folds.specs.Kit.{kit}
 use Rattle.update.specs.Update.{joining}
 use Rattle.update.proofs.joining.Goals as goal
 

@@ -1,4 +1,4 @@
-use Rattle.folds.specs.Kit.{◌≡◌, sym, ◌+◌, ◌-◌, ◌≤◌, arith, rules}
+use Rattle.folds.specs.Kit.{◌≡◌, sym, ◌+◌, ◌-◌, ◌≤◌, arith}
 use Rattle.folds.specs.Cell.{area}
 use lib.Seq.{length-take-le}
 use Rattle.update.specs.Same.{leave-copy}

@@ -1,4 +1,4 @@
-use Rattle.folds.specs.Kit.{pick, kit}
+use Rattle.folds.specs.Kit.{pick}
 use borrow.Author.Tests.{lt-ltb, le-ltb}
 use Rattle.update.specs.Update.{removed_entry}
 use Rattle.update.proofs.removed_entry.Goals as goal

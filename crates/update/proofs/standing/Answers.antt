@@ -1,4 +1,4 @@
-use Rattle.folds.specs.Kit.{arith, rules, pick}
+use Rattle.folds.specs.Kit.{arith, pick}
 use mathlib.Core.Logic.{⊎_elim}
 use native.Mathlib.Nat.{eq-or-lt_of_le}
 use borrow.Author.Tests.{lt-ltb, le-ltb}

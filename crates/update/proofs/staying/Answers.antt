@@ -1,4 +1,4 @@
-use Rattle.folds.specs.Kit.{arith, rules, pick}
+use Rattle.folds.specs.Kit.{arith, pick}
 use borrow.Author.Tests.{lt-ltb, le-ltb}
 use Rattle.update.specs.Update.{staying}
 use Rattle.update.proofs.staying.Goals as goal

@@ -3,5 +3,5 @@ use Rattle.matrix.specs.Matrix.{index}
 use Rattle.variable_set.specs.Marked.{count_if_new}
 use Rattle.variable_set.proofs.joining.Given as goal
 
-abbrev pub invariant-loop-t : goal.invariant-loop-t
-invariant-loop-t l = (l.t ≤ length l.indices) × (l.m ≤ l.t) × (l.m ≡ fold l.t (λ u. count_if_new l.held (index l.indices u)) 0)
+abbrev pub invariant-loop-i : goal.invariant-loop-i
+invariant-loop-i l = (l.i-index ≤ length l.indices) × (l.m ≤ l.i-index) × (l.m ≡ fold l.i-index (λ u. count_if_new l.held (index l.indices u)) 0)

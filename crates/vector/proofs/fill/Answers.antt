@@ -1,15 +1,11 @@
-use Rattle.folds.specs.Kit.{◌≡◌, ◌-◌, ◌≤◌, length, set, fold, over-kit}
-use Rattle.vector.specs.Vector.{filled}
+use Rattle.std.proofs.Common.{◌≡◌, length, take, arith, length-take-le}
+use Rattle.folds.specs.Fold.{over}
+use Rattle.vector.specs.Laws.{length-filled, replicate-filled}
 use Rattle.vector.proofs.fill.Goals as goal
 
-pub loop-k-init : goal.loop-k-init
-unfolding filled
-loop-k-init c = search over-kit
-
-pub loop-k-preserved : goal.loop-k-preserved
-unfolding filled
-loop-k-preserved c = search over-kit
-
 pub returns : goal.returns
-unfolding filled
-returns c = search over-kit
+unfolding over
+returns c =
+    let x = c.args in
+    let e : length (take x.n x.y.now) ≡ x.n = length-take-le x.n x.y.now (omega arith) in
+    rw (length-filled, c.fill.ensures.after (λ y e. e), e, replicate-filled)

@@ -1,4 +1,4 @@
-use Rattle.folds.specs.Kit.{arith, pick, kit}
+use Rattle.folds.specs.Kit.{arith, pick}
 use Rattle.folds.specs.Chosen.{push_if}
 use Rattle.vector.proofs.push_if.Goals as goal
 

@@ -1,16 +1,8 @@
-use Rattle.folds.specs.Kit.{◌≡◌, ◌-◌, ◌≤◌, length, set, fold, over-kit}
-use Rattle.arith.specs.Float.{fsub, at}
+use Rattle.std.proofs.Common.{arith, rules}
 use Rattle.vector.specs.Vector.{sub}
+use Rattle.vector.specs.Laws.{over_by}
 use Rattle.vector.proofs.sub.Goals as goal
-
-pub loop-k-init : goal.loop-k-init
-unfolding sub
-loop-k-init c = search over-kit
-
-pub loop-k-preserved : goal.loop-k-preserved
-unfolding sub
-loop-k-preserved c = search over-kit
 
 pub returns : goal.returns
 unfolding sub
-returns c = search over-kit
+returns c = let w = c.write_each.ensures in over_by _ _ _ _ (omega arith) w.length (λ k h. let e = w.written k h in search rules) w.kept

@@ -1,7 +1,0 @@
-use Rattle.folds.specs.Kit.{◌≡◌, ◌-◌, ◌≤◌, length, set, fold, over-kit}
-use Rattle.arith.specs.Float.{fadd, at}
-use Rattle.vector.specs.Vector.{add_scalar}
-use Rattle.vector.proofs.add_scalar.Given as goal
-
-abbrev pub invariant-loop-k : goal.invariant-loop-k
-invariant-loop-k l = (l.k ≤ l.n) × (length l.y ≡ length l.initial.y) × (l.y ≡ fold l.k (λ i l'. set l' i (fadd (at l.a i) l.v)) l.initial.y)

@@ -1,6 +1,0 @@
-use Rattle.folds.specs.Kit.{◌≡◌, ◌-◌, ◌≤◌, length, set, fold, over-kit}
-use Rattle.vector.specs.Vector.{filled}
-use Rattle.vector.proofs.fill.Given as goal
-
-abbrev pub invariant-loop-k : goal.invariant-loop-k
-invariant-loop-k l = (l.k ≤ l.n) × (length l.y ≡ length l.initial.y) × (l.y ≡ fold l.k (λ i l'. set l' i (l.v)) l.initial.y)

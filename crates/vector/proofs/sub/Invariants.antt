@@ -1,7 +1,0 @@
-use Rattle.folds.specs.Kit.{◌≡◌, ◌-◌, ◌≤◌, length, set, fold, over-kit}
-use Rattle.arith.specs.Float.{fsub, at}
-use Rattle.vector.specs.Vector.{sub}
-use Rattle.vector.proofs.sub.Given as goal
-
-abbrev pub invariant-loop-k : goal.invariant-loop-k
-invariant-loop-k l = (l.k ≤ l.n) × (length l.y ≡ length l.initial.y) × (l.y ≡ fold l.k (λ i l'. set l' i (fsub (at l.a i) (at l.b i))) l.initial.y)

@@ -1,8 +1,0 @@
-use Rattle.folds.specs.Kit.{◌≡◌, ◌-◌, ◌≤◌, arith, length, set, fold, over_edit, kit}
-use lib.Ieee.{nan}
-use Rattle.arith.specs.Float.{fsub, fmul, at}
-use Rattle.vector.specs.Vector.{sub_scaled}
-use Rattle.vector.proofs.sub_scaled.Given as goal
-
-abbrev pub invariant-loop-k : goal.invariant-loop-k
-invariant-loop-k l = (l.k ≤ l.n) × (length l.y ≡ length l.initial.y) × (l.y ≡ fold l.k (λ i l'. set l' i (fsub (at l' i) (fmul (at l.x i) l.by))) l.initial.y)
