@@ -10,10 +10,10 @@ ghost use Rattle.release_at.specs.ReleaseAt as ReleaseAt;
 ghost use Rattle.release_at.specs.ReleaseAt.{Shape};
 ghost use Rattle.advance.specs.Advance as Advance;
 
-use blocking::{Board, Released};
-use iterate::{Counts, Ending, Iterate, Magnitudes, Passed};
+use blocking::Board;
+use iterate::{Counts, Ending, Iterate, Magnitudes, Passed, SolveError};
 use releasing::Outcome;
-use segments::{Segments, Spot, State};
+use segments::{Segments, State};
 
 // The whole step; the refusals are cleared where x moved.
 pub fn settled(
@@ -31,22 +31,12 @@ pub fn settled(
     ensures { result
         ≡ Advance.settled indices.now target.now lower.now upper.now tolerance board }
 {
-    let mut x = board.x;
-    let moved = stepping::settle(&mut x, indices, target, lower, upper, tolerance);
-    let state = board.state;
-    let refused = board.refused;
+    let mut next = board;
+    let moved = stepping::settle(&mut next.x, indices, target, lower, upper, tolerance);
     if moved {
-        return Board {
-            x: x,
-            state: state,
-            refused: [false; sizes::VARIABLES],
-        };
+        next.refused = [false; sizes::VARIABLES];
     }
-    Board {
-        x: x,
-        state: state,
-        refused: refused,
-    }
+    next
 }
 
 fn entered(board: Board, i: usize, segment: usize) -> Board
@@ -54,9 +44,7 @@ fn entered(board: Board, i: usize, segment: usize) -> Board
     ensures { result ≡ Advance.entered i segment board }
 {
     let mut next = board;
-    next.state[i] = Spot {
-        state: State::Free(segment),
-    };
+    next.state[i] = State::Free(segment);
     next
 }
 
@@ -100,16 +88,12 @@ pub fn decided(
     match outcome {
         Outcome::Enter(i, segment) => {
             let next = entered(board, i, segment);
-            iterate::ended(
-                Ending::More,
-                iterate::with_board(iterate, next, Released::One(i)),
-            )
+            iterate::ended(Ending::More, iterate::with_board(iterate, next, Some(i)))
         }
-        Outcome::Answer => Passed {
-            ending: Ending::Optimal,
-            iterate: iterate::with_board(iterate, board, released),
-            multipliers: multipliers,
-        },
-        Outcome::NotConverged => iterate::ended(Ending::NotConverged, iterate),
+        Outcome::Answer => iterate::ended(
+            Ending::Optimal(multipliers),
+            iterate::with_board(iterate, board, released),
+        ),
+        Outcome::NotConverged => iterate::ended(Ending::Failed(SolveError::NotConverged), iterate),
     }
 }

@@ -1,5 +1,5 @@
 -- qp.rs, the blocked step of a pass of `solve_piecewise_in_units`.
-use Rattle.std.specs.Prelude.{ℕ, List, length, Float}
+use Rattle.std.specs.Prelude.{ℕ, List, length, Float, Option, None}
 use Rattle.folds.specs.Run.{Pass, more}
 use Rattle.vector.specs.Vector.{Below}
 use Rattle.matrix.specs.Matrix.{index}
@@ -8,8 +8,6 @@ use Rattle.segments.specs.declared.Segments.{Segments}
 use Rattle.lent_segments.specs.Lent.{segment_of}
 use Rattle.step_length.specs.declared.Side.{Side}
 use Rattle.blocking.specs.Blocking.{block}
-use Rattle.blocking.specs.declared.Released.{Released}
-use Rattle.blocking.specs.declared.Released.TheVariants.{NoOne}
 use Rattle.blocking.specs.declared.Board.{Board}
 use Rattle.stepping.specs.Stepping.{move_along}
 use Rattle.iterate.specs.Iterate.{Result, with_board, Consistent}
@@ -18,7 +16,7 @@ use Rattle.iterate.specs.declared.Passed.{Passed}
 
 -- `for k in 0..indices.len() { x[indices[k]] = (x_free[k] + step * direction[k]).clamp(lower[k], upper[k]); }`, and `block(..)` of the variable at k
 unfoldable pub move_and_block : (segments : List Segments) (indices : List ℕ) (x_free direction lower upper : List Float) (step : Float) (k : ℕ) →
-    Side → Released → Board → Board
+    Side → (released : Option ℕ) → Board → Board
 move_and_block segments indices x_free direction lower upper step k side released board =
     let i = index indices k in
     block i side (segments_at segments i) step released (segment_of (state_at board.state i))
@@ -31,4 +29,4 @@ Keeps indices segments i r =
 
 -- `released = None; continue;`
 unfoldable pub blocked_pass : Iterate → Board → Pass Iterate Result
-blocked_pass i board = more (with_board i board NoOne)
+blocked_pass i board = more (with_board i board None)

@@ -7,7 +7,7 @@ ghost use Rattle.step_length.specs.StepLength.{Entries};
 ghost use Rattle.iterate.specs.Iterate.{Leaves};
 ghost use Rattle.blocked_step.specs.BlockedStep as BlockedStep;
 
-use blocking::{Board, Released};
+use blocking::Board;
 use iterate::{Ending, Iterate, Passed};
 use segments::Segments;
 use step_length::Side;
@@ -24,7 +24,7 @@ fn move_and_block(
     step: f64,
     k: usize,
     side: Side,
-    released: Released,
+    released: Option<usize>,
 ) -> Board
     requires { Listed indices.now segments board.state
         × Entries (length indices.now) x_free.now direction.now lower.now upper.now
@@ -33,17 +33,10 @@ fn move_and_block(
         ≡ BlockedStep.move_and_block segments indices.now x_free.now direction.now lower.now
         upper.now step k side released board }
 {
-    let mut x = board.x;
-    stepping::move_along(&mut x, indices, x_free, direction, step, lower, upper);
-    let state = board.state;
-    let refused = board.refused;
-    let moved = Board {
-        x: x,
-        state: state,
-        refused: refused,
-    };
+    let mut moved = board;
+    stepping::move_along(&mut moved.x, indices, x_free, direction, step, lower, upper);
     let i = indices[k];
-    lent_segments::block_of(moved, i, side, segments, step, released)
+    lent_segments::block(moved, i, side, &segments, step, released)
 }
 
 // The same, with what the pass before released forgotten.
@@ -73,8 +66,5 @@ pub fn blocked_pass(
     let next = move_and_block(
         board, segments, indices, x_free, direction, lower, upper, step, k, side, released,
     );
-    iterate::ended(
-        Ending::More,
-        iterate::with_board(iterate, next, Released::NoOne),
-    )
+    iterate::ended(Ending::More, iterate::with_board(iterate, next, None))
 }

@@ -7,21 +7,14 @@ ghost use Rattle.segments.specs.Segments.{Cut, IsFree, Placed, state_at};
 ghost use Rattle.blocking.specs.Blocking as Blocking;
 ghost use Rattle.blocking.specs.Blocking.{Blocked};
 
-use segments::{Segments, Spot, State};
+use segments::{Segments, State};
 use step_length::Side;
-
-// The variable that the pass before released, if it did.
-#[derive(Clone, Copy)]
-pub enum Released {
-    One(usize),
-    NoOne,
-}
 
 // What a block changes: the point, each variable's state, and which variables are refused.
 #[derive(Clone, Copy)]
 pub struct Board {
     pub x: [f64; sizes::VARIABLES],
-    pub state: [Spot; sizes::VARIABLES],
+    pub state: [State; sizes::VARIABLES],
     pub refused: [bool; sizes::VARIABLES],
 }
 
@@ -35,21 +28,12 @@ fn end_point(j: usize, side: Side) -> usize
     }
 }
 
-fn just_released(released: Released, i: usize) -> bool
-    ensures { result ≡ Blocking.just_released released i }
-{
-    let Released::One(k) = released else {
-        return false;
-    };
-    k == i
-}
-
 // A step above 0 clears every refusal; else a variable that was just released is refused.
 fn refusals(
     refused: [bool; sizes::VARIABLES],
     i: usize,
     step: f64,
-    released: Released,
+    released: Option<usize>,
 ) -> [bool; sizes::VARIABLES]
     requires { i < Sizes.variables }
     ensures { result ≡ Blocking.refusals i step released refused }
@@ -57,7 +41,7 @@ fn refusals(
     if step > 0.0 {
         return [false; sizes::VARIABLES];
     }
-    if just_released(released, i) {
+    if released == Some(i) {
         let mut marked = refused;
         marked[i] = true;
         return marked;
@@ -72,20 +56,16 @@ pub fn block(
     side: Side,
     s: Segments,
     step: f64,
-    released: Released,
+    released: Option<usize>,
 ) -> Board
     requires { (i < Sizes.variables) × Cut s × IsFree (state_at board.state i) × Placed s (state_at board.state i) }
     ensures { Blocked i side s step released board result }
 {
-    let spot = board.state[i];
-    let state = spot.state;
-    let point = end_point(segments::segment_of(state), side);
+    let point = end_point(segments::segment_of(board.state[i]), side);
     let refused = board.refused;
     let mut next = board;
     next.x[i] = s.point(point);
-    next.state[i] = Spot {
-        state: State::At(point),
-    };
+    next.state[i] = State::At(point);
     let marked = refusals(refused, i, step, released);
     next.refused = marked;
     next

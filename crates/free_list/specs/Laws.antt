@@ -13,12 +13,11 @@ use Rattle.segments.specs.Segments.{state_at, IsFree, AllCut, AllPlaced}
 use Rattle.segments.specs.declared.Segments.{Segments}
 use Rattle.segments.specs.declared.State.{State}
 use Rattle.segments.specs.declared.State.TheVariants.{At, Free}
-use Rattle.segments.specs.declared.Spot.{Spot}
 pub use Rattle.lent_segments.specs.Laws.{length-entries, taken-entries}
 use Rattle.free_list.specs.FreeList.{is_free, free_indices, Listed, lower_ends, upper_ends, Ends}
 
 -- ---- the free variables: below n, and rising
-module _ (n : ℕ) (state : List Spot) where
+module _ (n : ℕ) (state : List State) where
   pub free-chosen : free_indices n state ≡ chosen n (λ i. is_free (state_at state i))
   unfolding free_indices
   free-chosen = refl
@@ -36,7 +35,7 @@ module _ (n : ℕ) (state : List Spot) where
   free-rising i k h l = chosen-rises n (λ i. is_free (state_at state i)) i k h l
 
 -- ---- `split_slacks`: the free originals come first, and the rest are slacks
-module _ (originals n : ℕ) (state : List Spot) (few : originals ≤ n) where
+module _ (originals n : ℕ) (state : List State) (few : originals ≤ n) where
   pub free-originals : take (partition_point originals (free_indices n state)) (free_indices n state) ≡ free_indices originals state
   unfolding free_indices
   free-originals =
@@ -57,7 +56,7 @@ is-free (At p) e = false_true e
 is-free (Free j) e = tt
 
 -- of a list that is theirs
-module _ (n : ℕ) (state : List Spot) {l : List ℕ} (e : l ≡ free_indices n state) where
+module _ (n : ℕ) (state : List State) {l : List ℕ} (e : l ≡ free_indices n state) where
   pub listed_below : (k : ℕ) → k < length l → get_or l k 0 < n
   listed_below k h = rw e (free-below n state k (rw e at h))
 
@@ -73,7 +72,7 @@ module _ (n : ℕ) (state : List Spot) {l : List ℕ} (e : l ≡ free_indices n 
       }
 
 -- ---- the lists made of them: what is written over the start of two lists, for the free variables listed
-pub ends-taken : (n : ℕ) (segments : List Segments) (state : List Spot) {l : List ℕ} {lower upper : List Float} (o p : List Float) →
+pub ends-taken : (n : ℕ) (segments : List Segments) (state : List State) {l : List ℕ} {lower upper : List Float} (o p : List Float) →
     l ≡ free_indices n state → lower ≡ over (lower_ends (length l) l segments state) o → upper ≡ over (upper_ends (length l) l segments state) p →
     Ends n segments state (take (length l) lower) (take (length l) upper)
 ends-taken n segments state {l} o p e f g =

@@ -8,39 +8,33 @@ ghost use Rattle.sizes.specs.Sizes as Sizes;
 ghost use Rattle.free_list.specs.FreeList as FreeList;
 ghost use Rattle.free_list.specs.FreeList.{Listed};
 
-use segments::{Segments, Spot, State};
+use segments::{Segments, State};
 
 // The variables, the leading part of `indices`; the slacks are the rest.
 pub fn split_slacks<'a>(indices: &'a [usize], originals: usize) -> &'a [usize]
     ensures { result.now ≡ take (partition_point originals indices.now) indices.now }
 {
-    for i in 0..indices.len() {
-        if indices[i] >= originals {
-            return &indices[..i];
-        }
+    match indices.iter().position(|i| *i >= originals) {
+        Some(count) => &indices[..count],
+        None => indices,
     }
-    indices
 }
 
-fn is_free(spot: Spot) -> bool
-    ensures { result ≡ FreeList.is_free spot.state }
+fn is_free(state: State) -> bool
+    ensures { result ≡ FreeList.is_free state }
 {
-    let state = spot.state;
-    match state {
-        State::At(_) => false,
-        State::Free(_) => true,
-    }
+    matches!(state, State::Free(_))
 }
 
 // The free ones of the first n, over the start of `indices`, and how many they are.
-pub fn free_indices(state: [Spot; sizes::VARIABLES], n: usize, indices: &mut [usize]) -> usize
+pub fn free_indices(state: [State; sizes::VARIABLES], n: usize, indices: &mut [usize]) -> usize
     requires { (n ≤ Sizes.variables) × (n ≤ length indices.old) }
     ensures { (result ≡ length (FreeList.free_indices n state))
         × (indices.new ≡ over (FreeList.free_indices n state) indices.old) }
 {
     let mut count = 0;
-    for i in 0..n {
-        count = vector::push_if(is_free(state[i]), i, count, indices);
+    for (i, state) in state[..n].iter().enumerate() {
+        count = vector::push_if(is_free(*state), i, count, indices);
     }
     count
 }
@@ -48,7 +42,7 @@ pub fn free_indices(state: [Spot; sizes::VARIABLES], n: usize, indices: &mut [us
 // Each listed variable's segment: its ends, and the slope on it.
 pub fn ends_and_slopes(
     segments: [Segments; sizes::VARIABLES],
-    state: [Spot; sizes::VARIABLES],
+    state: [State; sizes::VARIABLES],
     indices: &[usize],
     lower: &mut [f64],
     upper: &mut [f64],
@@ -65,5 +59,5 @@ pub fn ends_and_slopes(
         × (slope.new
         ≡ over (FreeList.slopes (length indices.now) indices.now segments state) slope.old) }
 {
-    lent_segments::ends_and_slopes_of(segments, state, indices, lower, upper, slope);
+    lent_segments::ends_and_slopes(&segments, state, indices, lower, upper, slope);
 }

@@ -100,12 +100,12 @@ pub fn gather(
     vector::select(&residuals[..m], m, &kept[..columns], columns, &mut residual);
     let noise = slack_rows::step_noise(&room[..rows], k, n, x, originals, &c_free[..k]);
     Free {
-        kept: kept,
-        columns: columns,
+        kept,
+        columns,
         c: c_free,
         gradient: gradient_free,
-        residuals: residuals,
-        residual: residual,
-        noise: noise,
+        residuals,
+        residual,
+        noise,
     }
 }

@@ -10,6 +10,7 @@ use Rattle.segments.specs.declared.Segments.{Segments}
 use Rattle.slack_rows.specs.SlackRows.{all_multipliers, with_slack_steps}
 use Rattle.ray.specs.Ray.{descent_ray}
 use Rattle.iterate.specs.Problem.{first_slack_column}
+use Rattle.iterate.specs.declared.SolveError.TheVariants.{NonFiniteCovariance, SingularCovariance}
 use Rattle.iterate.specs.Iterate.{Result}
 use Rattle.iterate.specs.Iterate as Iterate
 use Rattle.iterate.specs.declared.Iterate.{Iterate}
@@ -35,7 +36,7 @@ unfoldable pub descend : (originals n m : ℕ) (e : List Float) (segments : List
     Pass Iterate Result
 descend originals n m e segments solved slacks g i =
     let k = length solved in
-    pick (all_zero k g.c) (done Iterate.singular)
+    pick (all_zero k g.c) (done (Iterate.refused SingularCovariance))
     (on_ray originals n m e segments solved slacks i (descent_ray k (length g.kept) g.q_free g.gradient g.e_free))
 
 -- ---- by what the solve gave
@@ -45,5 +46,5 @@ unfoldable pub step : (originals n m : ℕ) (q c e : List Float) (segments : Lis
 step originals n m q c e segments fixed q_amax linear solved slacks g i (optimum delta multipliers) =
     to_minimum originals n m q c e segments fixed q_amax linear solved slacks g.kept g.residuals delta multipliers i
 step originals n m q c e segments fixed q_amax linear solved slacks g i no_optimum = descend originals n m e segments solved slacks g i
-step originals n m q c e segments fixed q_amax linear solved slacks g i non_finite = done Iterate.non_finite
-step originals n m q c e segments fixed q_amax linear solved slacks g i singular = done Iterate.singular
+step originals n m q c e segments fixed q_amax linear solved slacks g i non_finite = done (Iterate.refused NonFiniteCovariance)
+step originals n m q c e segments fixed q_amax linear solved slacks g i singular = done (Iterate.refused SingularCovariance)

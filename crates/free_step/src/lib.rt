@@ -13,9 +13,9 @@ ghost use Rattle.full_step.specs.FullStep.{Split};
 ghost use Rattle.free_step.specs.FreeStep as FreeStep;
 
 use free_problem::Free;
-use iterate::{Counts, Ending, Iterate, Magnitudes, Passed};
+use iterate::{Counts, Ending, Iterate, Magnitudes, Passed, SolveError};
 use segments::Segments;
-use solution::KktVerdict;
+use solution::KktError;
 
 // To the minimum on the free variables, which the solve gave as a step from x.
 fn to_minimum(
@@ -82,12 +82,7 @@ fn all_zero(a: &[f64], n: usize) -> bool
     requires { n ≤ length a.now }
     ensures { result ≡ FreeStep.all_zero n a.now }
 {
-    for i in 0..n {
-        if a[i] == 0.0 {} else {
-            return false;
-        }
-    }
-    true
+    a[..n].iter().all(|v| *v == 0.0)
 }
 
 // No minimum on the free variables: along a direction that lowers the objective for ever. Q and E are those of the variables `solved`.
@@ -124,7 +119,7 @@ fn descend(
     let square = k * k;
     let entries = k * columns;
     if all_zero(&c[..k], k) {
-        return iterate::ended(Ending::SingularCovariance, iterate);
+        return iterate::ended(Ending::Failed(SolveError::SingularCovariance), iterate);
     }
     let ray = ray::descent_ray(
         &q_free[..square],
@@ -140,7 +135,7 @@ fn descend(
 
 // The step that the solve on the free variables gave, by its verdict.
 pub fn step(
-    verdict: KktVerdict,
+    verdict: Result<(), KktError>,
     delta: &[f64],
     multipliers: &[f64],
     iterate: Iterate,
@@ -179,7 +174,7 @@ pub fn step(
     ensures consistent { Consistent counts.n segments result.iterate }
 {
     match verdict {
-        KktVerdict::Solved => to_minimum(
+        Ok(()) => to_minimum(
             delta,
             multipliers,
             iterate,
@@ -197,11 +192,16 @@ pub fn step(
             lower,
             upper,
         ),
-        KktVerdict::NoOptimum => descend(
+        Err(KktError::NoOptimum) => descend(
             iterate, segments, e, counts, indices, solved, slacks, free, q_free, e_free, lower,
             upper,
         ),
-        KktVerdict::NonFiniteCovariance => iterate::ended(Ending::NonFiniteCovariance, iterate),
-        KktVerdict::SingularCovariance => iterate::ended(Ending::SingularCovariance, iterate),
+        Err(KktError::NonFiniteCovariance) => {
+            iterate::ended(Ending::Failed(SolveError::NonFiniteCovariance), iterate)
+        }
+        Err(KktError::SingularCovariance) => iterate::ended(
+            Ending::Failed(SolveError::SingularCovariance),
+            iterate,
+        ),
     }
 }

@@ -8,7 +8,8 @@ use Rattle.vector.specs.Vector.{filled}
 use Rattle.segments.specs.Freeing.{free_all}
 use Rattle.segments.specs.declared.Segments.{Segments}
 use Rattle.stepping.specs.Stepping.{same_point}
-use Rattle.iterate.specs.Iterate.{Result, optimal, not_converged, passed_of}
+use Rattle.iterate.specs.declared.SolveError.TheVariants.{NotConverged}
+use Rattle.iterate.specs.Iterate.{Result, optimal, refused, passed_of}
 use Rattle.iterate.specs.declared.Iterate.{Iterate}
 use Rattle.iterate.specs.declared.Passed.{Passed}
 
@@ -38,7 +39,7 @@ free_everything n segments fixed i =
 unfoldable pub without_free : (originals n m : ℕ) (segments : List Segments) (fixed : List Bool) → Iterate → Pass Iterate Result
 without_free originals n m segments fixed i =
     pick (all_true originals fixed) (done (optimal (take n i.board.x) (filled m f0)))
-    (pick (freed_here n i.freed (take n i.freed_at) (take n i.board.x)) (done not_converged)
+    (pick (freed_here n i.freed (take n i.freed_at) (take n i.board.x)) (done (refused NotConverged))
     (more (free_everything n segments fixed i)))
 
 -- of what the code leaves

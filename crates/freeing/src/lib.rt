@@ -8,7 +8,7 @@ ghost use Rattle.segments.specs.Segments.{AllCut, AllPlaced};
 ghost use Rattle.iterate.specs.Iterate.{Consistent};
 ghost use Rattle.freeing.specs.Freeing as Freeing;
 
-use iterate::{Ending, Iterate, Passed};
+use iterate::{Ending, Iterate, Passed, SolveError};
 use segments::Segments;
 
 // Whether no original is free: solved.is_empty().
@@ -22,12 +22,7 @@ fn all_true(a: &[bool], n: usize) -> bool
     requires { n ≤ length a.now }
     ensures { result ≡ Freeing.all_true n a.now }
 {
-    for i in 0..n {
-        if a[i] {} else {
-            return false;
-        }
-    }
-    true
+    a[..n].iter().all(|x| *x)
 }
 
 // freed_at.as_ref() == Some(&x)
@@ -85,13 +80,13 @@ pub fn without_free(
     ensures consistent { Consistent n segments result.iterate }
 {
     if all_true(fixed, originals) {
-        return iterate::ended(Ending::Optimal, iterate);
+        return iterate::ended(Ending::Optimal([0.0; sizes::COLUMNS]), iterate);
     }
     let board = iterate.board;
     let x = board.x;
     let freed_at = iterate.freed_at;
     if freed_here(iterate.freed, &freed_at[..n], &x[..n], n) {
-        return iterate::ended(Ending::NotConverged, iterate);
+        return iterate::ended(Ending::Failed(SolveError::NotConverged), iterate);
     }
     iterate::ended(Ending::More, free_everything(iterate, segments, fixed, n))
 }

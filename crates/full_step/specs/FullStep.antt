@@ -1,25 +1,25 @@
 -- qp.rs, the step of a pass of `solve_piecewise_in_units`: toward the minimum on the free variables, or along a direction of zero curvature, until
 -- a variable reaches an end of its segment.
-use Rattle.std.specs.Prelude.{ℕ, ◌+◌, ◌-◌, ◌≤◌, ◌≡◌, Bool, List, length, take, Float}
+use Rattle.std.specs.Prelude.{ℕ, ◌+◌, ◌-◌, ◌≤◌, ◌≡◌, Bool, List, length, take, Float, Option, Some, None}
 use Rattle.folds.specs.Run.{Pass, done}
 use Rattle.sizes.specs.Sizes as Sizes
 use Rattle.vector.specs.Vector.{add, sub, select}
 use Rattle.segments.specs.declared.Segments.{Segments}
-use Rattle.segments.specs.declared.Spot.{Spot}
+use Rattle.segments.specs.declared.State.{State}
 use Rattle.free_list.specs.FreeList.{free_indices, lower_ends, upper_ends}
 use Rattle.step_length.specs.StepLength.{ratio_test, step_tolerance, first_passed}
-use Rattle.step_length.specs.declared.Hit.{Hit}
-use Rattle.step_length.specs.declared.Hit.TheVariants.{Found, Nothing}
+use Rattle.step_length.specs.declared.Side.{Side}
 use Rattle.slack_rows.specs.SlackRows.{Rows, Solved}
 use Rattle.iterate.specs.Problem.{first_slack_column}
-use Rattle.iterate.specs.Iterate.{Result, unbounded}
+use Rattle.iterate.specs.declared.SolveError.TheVariants.{Unbounded}
+use Rattle.iterate.specs.Iterate.{Result, refused}
 use Rattle.iterate.specs.declared.Iterate.{Iterate}
 use Rattle.blocked_step.specs.BlockedStep.{move_and_block, blocked_pass}
 use Rattle.release_at.specs.ReleaseAt.{release}
 use Rattle.advance.specs.Advance.{settled, decided}
 
 -- the free variables, split into those solved for and the slacks, each with its row among E's columns
-pub record Split (originals n m : ℕ) (e : List Float) (state : List Spot) (indices solved slacks : List ℕ) : Type 0 where
+pub record Split (originals n m : ℕ) (e : List Float) (state : List State) (indices solved slacks : List ℕ) : Type 0 where
   pub within : originals ≤ n
   pub slacks_fit : n - originals ≤ m
   pub columns : m ≤ Sizes.columns
@@ -31,10 +31,10 @@ pub record Split (originals n m : ℕ) (e : List Float) (state : List Spot) (ind
 -- ---- toward the target
 -- `if let Some((step, k, side)) = blocking { .. continue; }`, with the step along `target - x_free`; else the whole step, and the release
 unfoldable pub at_blocking : (originals n m : ℕ) (q c e : List Float) (segments : List Segments) (fixed : List Bool) (q_amax linear : Float)
-    (indices : List ℕ) (x_free target lower upper : List Float) (tolerance : Float) (multipliers : List Float) → Iterate → Hit → Pass Iterate Result
-at_blocking originals n m q c e segments fixed q_amax linear indices x_free target lower upper tolerance multipliers i (Found step k side) =
-    blocked_pass i (move_and_block segments indices x_free (sub (length indices) target x_free) lower upper step k side i.released i.board)
-at_blocking originals n m q c e segments fixed q_amax linear indices x_free target lower upper tolerance multipliers i Nothing =
+    (indices : List ℕ) (x_free target lower upper : List Float) (tolerance : Float) (multipliers : List Float) → Iterate → Option (Float × ℕ × Side) → Pass Iterate Result
+at_blocking originals n m q c e segments fixed q_amax linear indices x_free target lower upper tolerance multipliers i (Some hit) =
+    blocked_pass i (move_and_block segments indices x_free (sub (length indices) target x_free) lower upper hit.0 hit.1 hit.2 i.released i.board)
+at_blocking originals n m q c e segments fixed q_amax linear indices x_free target lower upper tolerance multipliers i None =
     let board = settled indices target lower upper tolerance i.board in
     decided n i board multipliers (release originals n m q c e segments fixed q_amax linear multipliers board)
 
@@ -59,11 +59,11 @@ toward originals n m q c e segments fixed q_amax linear solved step multipliers 
 
 -- ---- along a direction
 -- `ratio_test(&x_free, &direction, &lower, &upper).ok_or(CutupError::Unbounded)?`
-unfoldable pub at_ratio : (segments : List Segments) (indices : List ℕ) (x_free direction lower upper : List Float) → Iterate → Hit →
+unfoldable pub at_ratio : (segments : List Segments) (indices : List ℕ) (x_free direction lower upper : List Float) → Iterate → Option (Float × ℕ × Side) →
     Pass Iterate Result
-at_ratio segments indices x_free direction lower upper i (Found step k side) =
-    blocked_pass i (move_and_block segments indices x_free direction lower upper step k side i.released i.board)
-at_ratio segments indices x_free direction lower upper i Nothing = done unbounded
+at_ratio segments indices x_free direction lower upper i (Some hit) =
+    blocked_pass i (move_and_block segments indices x_free direction lower upper hit.0 hit.1 hit.2 i.released i.board)
+at_ratio segments indices x_free direction lower upper i None = done (refused Unbounded)
 
 unfoldable pub ray_step : (segments : List Segments) (indices : List ℕ) (x_free direction lower upper : List Float) → Iterate →
     Pass Iterate Result

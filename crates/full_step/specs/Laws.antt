@@ -4,13 +4,13 @@ use Rattle.std.specs.Prelude.{◌≡◌, List, ℕ, ◌≤◌, length, Float}
 use Rattle.std.proofs.Common.{ap, ◌∙◌, arith}
 use Rattle.sizes.specs.Sizes as Sizes
 use Rattle.segments.specs.declared.Segments.{Segments}
-use Rattle.segments.specs.declared.Spot.{Spot}
+use Rattle.segments.specs.declared.State.{State}
 use Rattle.free_list.specs.FreeList.{free_indices, Ends}
 use Rattle.free_list.specs.Laws.{free-few, length-entries}
 use Rattle.step_length.specs.StepLength.{Entries}
 use Rattle.full_step.specs.FullStep.{Split}
 
-module _ (n : ℕ) (state : List Spot) {l : List ℕ} (e : l ≡ free_indices n state) where
+module _ (n : ℕ) (state : List State) {l : List ℕ} (e : l ≡ free_indices n state) where
   pub listed_few : length l ≤ n
   listed_few = rw e (free-few n state)
 
@@ -25,6 +25,6 @@ module _ (n : ℕ) (state : List Spot) {l : List ℕ} (e : l ≡ free_indices n 
       }
 
 -- of a split one
-pub split-few : {originals n m : ℕ} {e : List Float} {state : List Spot} {indices solved slacks : List ℕ} →
+pub split-few : {originals n m : ℕ} {e : List Float} {state : List State} {indices solved slacks : List ℕ} →
     Split originals n m e state indices solved slacks → length indices ≤ Sizes.variables
 split-few {n = n} {state = state} split = omega (arith, listed_few n state split.free, split.slacks_are.few)

@@ -15,9 +15,8 @@ ghost use Rattle.blocked_step.specs.BlockedStep.{Keeps};
 ghost use Rattle.release_at.specs.ReleaseAt.{Shape};
 ghost use Rattle.full_step.specs.FullStep as FullStep;
 
-use iterate::{Counts, Ending, Iterate, Magnitudes, Passed};
+use iterate::{Counts, Ending, Iterate, Magnitudes, Passed, SolveError};
 use segments::Segments;
-use step_length::Hit;
 
 // The step on the variables `solved`, with the slacks' after it, over the start of `all`.
 pub fn slack_steps(
@@ -83,7 +82,7 @@ fn stepped(
 {
     let count = indices.len();
     let hit = step_length::first_passed(x_free, target, lower, upper, count, tolerance);
-    let Hit::Found(step, k, side) = hit else {
+    let Some((step, k, side)) = hit else {
         let board = iterate.board;
         let next = advance::settled(board, indices, target, lower, upper, tolerance);
         return advance::decided(
@@ -133,8 +132,8 @@ fn ray_step(
     ensures keeps { Keeps indices.now segments iterate result }
 {
     let hit = step_length::ratio_test(x_free, direction, lower, upper, indices.len());
-    let Hit::Found(step, k, side) = hit else {
-        return iterate::ended(Ending::Unbounded, iterate);
+    let Some((step, k, side)) = hit else {
+        return iterate::ended(Ending::Failed(SolveError::Unbounded), iterate);
     };
     blocked_step::blocked_pass(
         iterate, segments, indices, x_free, direction, lower, upper, step, k, side,

@@ -1,39 +1,33 @@
 -- qp.rs, `solve_piecewise_in_units`: what a pass gives, and what every pass keeps.
-use Rattle.std.specs.Prelude.{ℕ, ◌≡◌, List, Float, take}
+use Rattle.std.specs.Prelude.{ℕ, ◌≡◌, List, Float, take, Option}
 use Rattle.folds.specs.Run.{Pass, more, done}
 use Rattle.segments.specs.Segments.{AllPlaced}
 use Rattle.segments.specs.declared.Segments.{Segments}
-use Rattle.blocking.specs.declared.Released.{Released}
 use Rattle.blocking.specs.declared.Board.{Board}
 use Rattle.iterate.specs.declared.Iterate.{Iterate}
 use Rattle.iterate.specs.declared.Ending.{Ending}
-use Rattle.iterate.specs.declared.Ending.TheVariants.{More, Optimal, NonFiniteCovariance, SingularCovariance, Unbounded, NotConverged}
+use Rattle.iterate.specs.declared.Ending.TheVariants.{More, Optimal, Failed}
+use Rattle.iterate.specs.declared.SolveError.{SolveError}
 use Rattle.iterate.specs.declared.Passed.{Passed}
 
 -- another point with its active set
-unfoldable pub with_board : Iterate → Board → Released → Iterate
+unfoldable pub with_board : Iterate → Board → (released : Option ℕ) → Iterate
 with_board i board released = record { board = board; released = released; freed = i.freed; freed_at = i.freed_at }
 
 -- `Ok(x)` with the multipliers, and what is refused
 pub data Result : Type 0 where
   optimal : (x multipliers : List Float) → Result
-  non_finite : Result
-  singular : Result
-  unbounded : Result
-  not_converged : Result
+  refused : SolveError → Result
 
--- `continue`, `return Ok(x)`, `return Err(..)`
-unfoldable pub passed : Ending → Iterate → (x multipliers : List Float) → Pass Iterate Result
-passed More i x multipliers = more i
-passed Optimal i x multipliers = done (optimal x multipliers)
-passed NonFiniteCovariance i x multipliers = done non_finite
-passed SingularCovariance i x multipliers = done singular
-passed Unbounded i x multipliers = done unbounded
-passed NotConverged i x multipliers = done not_converged
+-- `continue`, `return Ok(x)`, `return Err(..)`, with n variables and m columns
+unfoldable pub passed : (n m : ℕ) → Ending → Iterate → Pass Iterate Result
+passed n m More i = more i
+passed n m (Optimal multipliers) i = done (optimal (take n i.board.x) (take m multipliers))
+passed n m (Failed e) i = done (refused e)
 
--- of what the code leaves, with n variables and m columns
+-- of what the code leaves
 unfoldable pub passed_of : (n m : ℕ) → Passed → Pass Iterate Result
-passed_of n m r = passed r.ending r.iterate (take n r.iterate.board.x) (take m r.multipliers)
+passed_of n m r = passed n m r.ending r.iterate
 
 -- what the code leaves, whatever the number of columns
 abbrev pub Gives : (n : ℕ) (r : Passed) → Pass Iterate Result → Type 0

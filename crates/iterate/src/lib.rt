@@ -1,12 +1,10 @@
 // qp.rs, `solve_piecewise_in_units`: what a pass changes, and what it ends in.
 #![tactic(auto)]
 
-ghost use Rattle.std.specs.Prelude.{◌≡◌, replicate};
-ghost use Rattle.sizes.specs.Sizes as Sizes;
-ghost use Rattle.arith.specs.Float.{f0};
+ghost use Rattle.std.specs.Prelude.{◌≡◌};
 ghost use Rattle.iterate.specs.Iterate as Definition;
 
-use blocking::{Board, Released};
+use blocking::Board;
 
 // The variables, of which those from `originals` on are slacks, and the columns of E.
 #[derive(Clone, Copy)]
@@ -27,13 +25,13 @@ pub struct Magnitudes {
 #[derive(Drop)]
 pub struct Iterate {
     pub board: Board,
-    pub released: Released,
+    pub released: Option<usize>,
     pub freed: bool,
     pub freed_at: [f64; sizes::VARIABLES],
 }
 
 // Another point with its active set.
-pub fn with_board(iterate: Iterate, board: Board, released: Released) -> Iterate
+pub fn with_board(iterate: Iterate, board: Board, released: Option<usize>) -> Iterate
     ensures { result ≡ Definition.with_board iterate board released }
 {
     let freed_at = iterate.freed_at;
@@ -45,30 +43,35 @@ pub fn with_board(iterate: Iterate, board: Board, released: Released) -> Iterate
     }
 }
 
-#[derive(Clone, Copy)]
-pub enum Ending {
-    More,
-    Optimal,
+// qp.rs, `CutupError`: why there is no optimum.
+#[derive(Clone, Copy, PartialEq, Eq, Debug)]
+pub enum SolveError {
     NonFiniteCovariance,
     SingularCovariance,
     Unbounded,
     NotConverged,
 }
 
-// Where the next pass starts, or where the last one stands; the multipliers count where it is Optimal.
+// Whether there is another pass, an optimum with its multipliers, or an error.
+#[derive(Clone, Copy)]
+pub enum Ending {
+    More,
+    Optimal([f64; sizes::COLUMNS]),
+    Failed(SolveError),
+}
+
+// How a pass ended, and where the next one starts or the last one stands.
 #[derive(Drop)]
 pub struct Passed {
     pub ending: Ending,
     pub iterate: Iterate,
-    pub multipliers: [f64; sizes::COLUMNS],
 }
 
 pub fn ended(ending: Ending, iterate: Iterate) -> Passed
-    ensures { (result.ending ≡ ending) × (result.iterate ≡ iterate) × (result.multipliers ≡ replicate Sizes.columns f0) }
+    ensures { (result.ending ≡ ending) × (result.iterate ≡ iterate) }
 {
     Passed {
         ending: ending,
         iterate: iterate,
-        multipliers: [0.0; sizes::COLUMNS],
     }
 }

@@ -9,7 +9,6 @@ use Rattle.folds.specs.Tab.{length-tab, get_d_tab, tab-same, part-tab, over_in, 
 use Rattle.arith.specs.Float.{f0}
 use Rattle.segments.specs.Segments.{IsFree, segments_at, state_at}
 use Rattle.segments.specs.declared.Segments.{Segments}
-use Rattle.segments.specs.declared.Spot.{Spot}
 use Rattle.segments.specs.declared.State.{State}
 use Rattle.segments.specs.declared.State.TheVariants.{At, Free}
 use Rattle.lent_segments.specs.Lent.{segment_of, segment_in, entries}
@@ -21,7 +20,7 @@ free_in (At p) h = absurd h
 free_in (Free j) h = refl
 
 -- ---- what is read of the listed variables' records
-module _ (read : Segment → Float) (indices : List ℕ) (segments : List Segments) (state : List Spot) where
+module _ (read : Segment → Float) (indices : List ℕ) (segments : List Segments) (state : List State) where
   abbrev entry : ℕ → Float
   entry t = let i = get_or indices t 0 in read (segment_in (segments_at segments i) (state_at state i))
 

@@ -10,7 +10,7 @@ use Rattle.variable_set.specs.Rising.{Rising}
 use Rattle.variable_set.specs.Laws.{rising-chosen}
 use Rattle.factoring.specs.Kept.{Kept, kept_of}
 use Rattle.segments.specs.declared.Segments.{Segments}
-use Rattle.segments.specs.declared.Spot.{Spot}
+use Rattle.segments.specs.declared.State.{State as SpotState}
 use Rattle.free_list.specs.FreeList.{free_indices, slopes}
 use Rattle.free_list.specs.Laws.{free-chosen, free-originals}
 use Rattle.slack_rows.specs.Laws as SlackRows
@@ -42,7 +42,7 @@ lead_few originals indices lead = rw (lead_length originals indices lead) (split
 pub rest-is : (k : ℕ) (indices : List ℕ) → take (length indices - k) (drop k indices) ≡ drop k indices
 rest-is k indices = take_all (length indices - k) (drop k indices) (rw (length-drop k indices) (le_refl _))
 
-module _ {indices solved : List ℕ} (originals n : ℕ) (state : List Spot) (within : originals ≤ n) (free : indices ≡ free_indices n state)
+module _ {indices solved : List ℕ} (originals n : ℕ) (state : List SpotState) (within : originals ≤ n) (free : indices ≡ free_indices n state)
     (lead : solved ≡ take (partition_point originals indices) indices) where
   pub split-rising : Rising originals solved
   split-rising = rw (lead, free, free-originals originals n state within, free-chosen originals state) (rising-chosen originals _)

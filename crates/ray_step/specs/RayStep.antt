@@ -7,6 +7,7 @@ use Rattle.segments.specs.declared.Segments.{Segments}
 use Rattle.slack_rows.specs.SlackRows.{with_slack_steps}
 use Rattle.scaled_ray.specs.ScaledRay.{Descent, descent, no_descent}
 use Rattle.iterate.specs.Problem.{first_slack_column}
+use Rattle.iterate.specs.declared.SolveError.TheVariants.{SingularCovariance}
 use Rattle.iterate.specs.Iterate.{Result}
 use Rattle.iterate.specs.Iterate as Iterate
 use Rattle.iterate.specs.declared.Iterate.{Iterate}
@@ -17,4 +18,4 @@ unfoldable pub on_ray : (originals n m : ℕ) (e : List Float) (segments : List 
     Pass Iterate Result
 on_ray originals n m e segments solved slacks i (descent direction) =
     along n segments (with_slack_steps e n solved slacks direction (filled m f0) originals (first_slack_column originals n m)) i
-on_ray originals n m e segments solved slacks i no_descent = done Iterate.singular
+on_ray originals n m e segments solved slacks i no_descent = done (Iterate.refused SingularCovariance)

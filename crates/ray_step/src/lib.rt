@@ -10,8 +10,7 @@ ghost use Rattle.iterate.specs.Iterate.{passed_of, Consistent};
 ghost use Rattle.full_step.specs.FullStep.{Split};
 ghost use Rattle.ray_step.specs.RayStep as RayStep;
 
-use iterate::{Counts, Ending, Iterate, Passed};
-use scaled_ray::Ray;
+use iterate::{Counts, Ending, Iterate, Passed, SolveError};
 use segments::Segments;
 
 // Along the ray of the variables `solved`, with residuals of 0 for the slacks' rows.
@@ -23,7 +22,7 @@ pub fn on_ray(
     indices: &[usize],
     solved: &[usize],
     slacks: &[usize],
-    ray: Ray,
+    ray: Option<[f64; sizes::VARIABLES]>,
     lower: &[f64],
     upper: &[f64],
 ) -> Passed
@@ -36,24 +35,23 @@ pub fn on_ray(
         (ray_of (length solved.now) ray) }
     ensures consistent { Consistent counts.n segments result.iterate }
 {
-    if ray.found {
-        let k = solved.len();
-        let n = counts.n;
-        let m = counts.m;
-        let count = indices.len();
-        let direction = ray.direction;
-        let none = [0.0; sizes::COLUMNS];
-        let mut step = [0.0; sizes::VARIABLES];
-        full_step::slack_steps(
-            e,
-            counts,
-            solved,
-            slacks,
-            &direction[..k],
-            &none[..m],
-            &mut step,
-        );
-        return full_step::along(iterate, segments, n, indices, &step[..count], lower, upper);
-    }
-    iterate::ended(Ending::SingularCovariance, iterate)
+    let Some(direction) = ray else {
+        return iterate::ended(Ending::Failed(SolveError::SingularCovariance), iterate);
+    };
+    let k = solved.len();
+    let n = counts.n;
+    let m = counts.m;
+    let count = indices.len();
+    let none = [0.0; sizes::COLUMNS];
+    let mut step = [0.0; sizes::VARIABLES];
+    full_step::slack_steps(
+        e,
+        counts,
+        solved,
+        slacks,
+        &direction[..k],
+        &none[..m],
+        &mut step,
+    );
+    full_step::along(iterate, segments, n, indices, &step[..count], lower, upper)
 }

@@ -1,45 +1,38 @@
 // qp.rs: which held variable leaves the active set, at an equality-constrained optimum. Of up to 48 variables and slacks.
 #![tactic(auto)]
 
-ghost use Rattle.std.specs.Prelude.{◌≡◌, true, cond, ◌≤◌, ◌<◌, length};
-ghost use Rattle.folds.specs.Best.{found, better};
+ghost use Rattle.std.specs.Prelude.{◌≡◌, ◌≤◌, length};
+ghost use Rattle.folds.specs.Best.{better};
 ghost use Rattle.sizes.specs.Sizes as Sizes;
 ghost use Rattle.segments.specs.Segments.{Cut, Placed, AllCut, AllPlaced, last as last_of};
 ghost use Rattle.releasing.specs.Release as Rule;
-ghost use Rattle.releasing.specs.Release.{as_best, at_least};
+ghost use Rattle.releasing.specs.Release.{at_least};
 
-use segments::{Segments, Spot, State};
+use segments::{Segments, State};
 
-// The rate at which the objective falls as a held variable moves into a segment next to it, and that segment.
-#[derive(Clone, Copy)]
-pub enum Descent {
-    Into(f64, usize),
-    Nowhere,
-}
-
-// A rate that counts: above `least`.
-fn counted(rate: f64, segment: usize, least: f64) -> Descent
+// The rate at which the objective falls as a held variable moves into a segment next to it, and that segment; a rate counts above `least`.
+fn counted(rate: f64, segment: usize, least: f64) -> Option<(f64, usize)>
     ensures { result ≡ Rule.counted rate segment least }
 {
     if rate > least {
-        return Descent::Into(rate, segment);
+        return Some((rate, segment));
     }
-    Descent::Nowhere
+    None
 }
 
 // Up into segment p.
-fn up(s: Segments, p: usize, nu: f64, least: f64) -> Descent
+fn up(s: Segments, p: usize, nu: f64, least: f64) -> Option<(f64, usize)>
     requires { Cut s × (p ≤ last_of s) }
     ensures { result ≡ Rule.up s p nu least }
 {
     if p < s.last() {
         return counted(-(nu + s.slope(p)), p, least);
     }
-    Descent::Nowhere
+    None
 }
 
 // Down into segment p - 1.
-fn down(s: Segments, p: usize, nu: f64, least: f64) -> Descent
+fn down(s: Segments, p: usize, nu: f64, least: f64) -> Option<(f64, usize)>
     requires { Cut s × (p ≤ last_of s) }
     ensures { result ≡ Rule.down s p nu least }
 {
@@ -47,96 +40,72 @@ fn down(s: Segments, p: usize, nu: f64, least: f64) -> Descent
         let segment = p - 1;
         return counted(nu + s.slope(segment), segment, least);
     }
-    Descent::Nowhere
-}
-
-// The first that counts: match (up, down).
-fn or_else(first: Descent, second: Descent) -> Descent
-    ensures { result ≡ Rule.or_else first second }
-{
-    let Descent::Into(_, _) = first else {
-        return second;
-    };
-    first
+    None
 }
 
 // Up before down.
-fn held_descent(s: Segments, p: usize, nu: f64, least: f64) -> Descent
+fn held_descent(s: Segments, p: usize, nu: f64, least: f64) -> Option<(f64, usize)>
     requires { Cut s × (p ≤ last_of s) }
     ensures { result ≡ Rule.held_descent s p nu least }
 {
-    or_else(up(s, p, nu, least), down(s, p, nu, least))
+    up(s, p, nu, least).or(down(s, p, nu, least))
 }
 
 // Of one that is neither fixed nor free.
-fn wrong_one(fixed: bool, spot: Spot, s: Segments, nu: f64, least: f64) -> Descent
-    requires { Cut s × Placed s spot.state }
-    ensures { result ≡ Rule.wrong_one fixed spot.state s nu least }
+fn wrong_one(fixed: bool, state: State, s: Segments, nu: f64, least: f64) -> Option<(f64, usize)>
+    requires { Cut s × Placed s state }
+    ensures { result ≡ Rule.wrong_one fixed state s nu least }
 {
     if fixed {
-        return Descent::Nowhere;
+        return None;
     }
-    let state = spot.state;
     match state {
         State::At(p) => held_descent(s, p, nu, least),
-        State::Free(_) => Descent::Nowhere,
+        State::Free(_) => None,
     }
 }
 
-// A rate, its variable and the segment.
-#[derive(Drop)]
-pub enum Fastest {
-    Found(f64, usize, usize),
-    Nothing,
-}
-
-// The larger of two rates, and the last where they are equal.
-fn faster(best: Fastest, i: usize, rate: f64, segment: usize) -> Fastest
-    ensures { as_best result ≡ better at_least (as_best best) (found (rate, i, segment)) }
+// Of two rates, each with its variable and the segment: the larger, and the last where they are equal.
+fn max_by(
+    best: Option<(f64, usize, usize)>,
+    other: Option<(f64, usize, usize)>,
+) -> Option<(f64, usize, usize)>
+    ensures { result ≡ better at_least best other }
 {
-    let Fastest::Found(largest, _, _) = best else {
-        return Fastest::Found(rate, i, segment);
+    let Some((rate, _, _)) = other else {
+        return best;
+    };
+    let Some((largest, _, _)) = best else {
+        return other;
     };
     if arith::total_less(rate, largest) {
         return best;
     }
-    Fastest::Found(rate, i, segment)
+    other
 }
 
-// Variable i, unless it is refused.
-fn faster_one(refused: bool, wrong: Descent, i: usize, best: Fastest) -> Fastest
-    ensures { as_best result ≡ better at_least (as_best best) (Rule.offered refused wrong i) }
+// What variable i offers, unless it is refused.
+fn offered(refused: bool, wrong: Option<(f64, usize)>, i: usize) -> Option<(f64, usize, usize)>
+    ensures { result ≡ Rule.offered refused wrong i }
 {
     if refused {
-        return best;
+        return None;
     }
-    let Descent::Into(rate, segment) = wrong else {
-        return best;
-    };
-    faster(best, i, rate, segment)
-}
-
-// Whether this one would lower the objective, or one before it.
-fn any_so_far(wrong: Descent, any: bool) -> bool
-    ensures { result ≡ cond (Rule.is_into wrong) true any }
-{
-    match wrong {
-        Descent::Into(_, _) => true,
-        Descent::Nowhere => any,
-    }
+    let (rate, segment) = wrong?;
+    Some((rate, i, segment))
 }
 
 // Of those that would lower the objective: the one that enters, and whether there is one, refused or not.
 #[derive(Drop)]
 pub struct Wrong {
-    pub entering: Fastest,
+    pub entering: Option<(f64, usize, usize)>,
     pub any: bool,
 }
 
-// Of the first n, in one loop.
+// Of the first n, in one loop, by index, as in the source: a zip of six slices is no plainer.
 fn wrong_ones(
     segments: [Segments; sizes::VARIABLES],
-    state: [Spot; sizes::VARIABLES],
+    state: [State; sizes::VARIABLES],
     fixed: &[bool],
     refused: &[bool],
     gradient: &[f64],
@@ -155,17 +124,17 @@ fn wrong_ones(
         ≡ Rule.entering n segments state fixed.now refused.now gradient.now pushback.now least)
         × (result.any ≡ Rule.any_wrong n segments state fixed.now gradient.now pushback.now least) }
 {
-    let mut best = Fastest::Nothing;
+    let mut best = None;
     let mut any = false;
     for i in 0..n {
         let nu = gradient[i] + pushback[i];
         let wrong = wrong_one(fixed[i], state[i], segments[i], nu, least);
-        best = faster_one(refused[i], wrong, i, best);
-        any = any_so_far(wrong, any);
+        best = max_by(best, offered(refused[i], wrong, i));
+        any |= wrong.is_some();
     }
     Wrong {
         entering: best,
-        any: any,
+        any,
     }
 }
 
@@ -179,7 +148,7 @@ pub enum Outcome {
 
 pub fn release(
     segments: [Segments; sizes::VARIABLES],
-    state: [Spot; sizes::VARIABLES],
+    state: [State; sizes::VARIABLES],
     fixed: &[bool],
     refused: &[bool],
     gradient: &[f64],
@@ -201,8 +170,7 @@ pub fn release(
     let wrong = wrong_ones(
         segments, state, fixed, refused, gradient, pushback, n, least,
     );
-    let entering = wrong.entering;
-    let Fastest::Found(_, i, segment) = entering else {
+    let Some((_, i, segment)) = wrong.entering else {
         if wrong.any {
             return Outcome::NotConverged;
         }

@@ -50,6 +50,7 @@ pub fn meets_rows(
     ensures { result
         ≡ Limits.meets_rows n r x.now a.now row_lower.now row_upper.now }
 {
+    // By the column's number: the columns lie in one slice.
     for j in 0..r {
         if meets_row(
             x,

@@ -1,19 +1,19 @@
 -- Laws of the definitions: a first state stands at a point or between two, and stays so where one variable is placed anew or all are freed.
-use Rattle.std.specs.Prelude.{◌≡◌, refl, Bool, false, ◌||◌, ℕ, ◌<◌, ◌≤◌, List, length, set, get_or, Float}
-use Rattle.std.proofs.Common.{sym, ap, subst, ◌∙◌, eq-or-lt_of_le, get_or-set_same, get_or-set_other}
+use Rattle.std.specs.Prelude.{◌≡◌, refl, Bool, false, ◌||◌, ℕ, zero, suc, ◌<◌, ◌≤◌, List, length, take, set, get_or, Float, Option, Some, None, MatchOption, unwrap_or}
+use Rattle.std.specs.Float.{nan}
+use Rattle.std.proofs.Common.{sym, ap, subst, ◌∙◌, eq-or-lt_of_le, le_of_suc-le-suc, length-take-le, get_or-take, get_or-set_same, get_or-set_other}
 use Rattle.std.proofs.Math.Bool.{true}
 use Rattle.std.proofs.Math.Logic.{⊎_elim}
 use native.Mathlib.Omega.{arith}
 use Rattle.std.specs.Float.Ieee.{lt, le, eq}
-use Rattle.folds.specs.Fold.{fold_keep, tab, over, pick, pick_by, pick_keep, some, false_true}
+use Rattle.folds.specs.Fold.{fold, fold_keep, tab, over, pick, pick_true, pick_false, pick_by, pick_keep, some, some_no, some_stop, false_true}
 use Rattle.folds.specs.Decide.{same-or-not}
-use Rattle.folds.specs.Position.{position, position-lt}
+use Rattle.folds.specs.Position.{position, position_stop, position-lt}
 use Rattle.folds.specs.Tab.{length-tab, get_d_tab, over_in}
 use Rattle.arith.specs.Float.{at}
 use Rattle.segments.specs.declared.Segments.{Segments}
 use Rattle.segments.specs.declared.State.{State}
 use Rattle.segments.specs.declared.State.TheVariants.{At, Free}
-use Rattle.segments.specs.declared.Spot.{Spot}
 use Rattle.segments.specs.Segments.{last, Cut, IsFree, Placed, segments_at, state_at, AllCut, AllPlaced}
 use Rattle.segments.specs.Start.{fixed, below, meets, inside, place, first}
 use Rattle.segments.specs.Freeing.{freed, free_one, free_all}
@@ -55,15 +55,56 @@ module _ (s : Segments) (cut : Cut s) (x : Float) where
       (λ _. pick_by (Placed s) (le x (at s.points 0)) {x = At 0} (λ _. omega arith)
       (λ _. pick_by (Placed s) (le (at s.points (last s)) x) {x = At (last s)} {y = inside s x} (λ _. omega arith) inside-placed))
 
+-- ---- the code's searches among the points that count
+-- the last number that passes
+last-passing : (n i : ℕ) (q : ℕ → Bool) → i < n → q i ≡ true → ((k : ℕ) → i < k → k < n → q k ≡ false) → i ≡ fold n (λ p j. pick (q p) p j) 0
+unfolding fold
+last-passing zero i q l e h = absurd (omega arith)
+last-passing (suc n) i q l e h =
+    ⊎_elim (λ (z : i ≡ n). let t : q n ≡ true = rw z at e in pick_true (q n) _ t z)
+    (λ (g : i < n). pick_false (q n) n (h n g (omega arith)) (last-passing n i q g e (λ k a b. h k a (omega arith))))
+    (eq-or-lt_of_le (le_of_suc-le-suc l))
+
+none-passing : (n : ℕ) (q : ℕ → Bool) → ((k : ℕ) → k < n → q k ≡ false) → 0 ≡ fold n (λ p j. pick (q p) p j) 0
+unfolding fold
+none-passing zero q h = refl
+none-passing (suc n) q h = pick_false (q n) n (h n (omega arith)) (none-passing n q (λ k l. h k (omega arith)))
+
+module _ (s : Segments) (room : s.count ≤ length s.points) (x : Float) {l : List Float} (e : l ≡ take s.count s.points) where
+  counted : length l ≡ s.count
+  counted = rw e (length-take-le s.count s.points room)
+
+  read : (k : ℕ) → k < s.count → at l k ≡ at s.points k
+  read k h = rw e (get_or-take s.count s.points k nan h)
+
+  pub below-is : (o : Option ℕ) → MatchOption o ((k : ℕ) → k < length l → lt (at l k) x ≡ false)
+      (λ i. (i < length l) × (lt (at l i) x ≡ true) × ((k : ℕ) → i < k → k < length l → lt (at l k) x ≡ false)) → unwrap_or o 0 ≡ below s x
+  unfolding below
+  below-is None h = none-passing s.count (λ k. lt (at s.points k) x) (λ k g. rw (← read k g) (h k (rw counted g)))
+  below-is (Some i) h =
+      let n = counted in
+      let b : i < s.count = rw n at h.0 in
+      last-passing s.count i (λ k. lt (at s.points k) x) b (rw (← read i b) h.1) (λ k a g. rw (← read k g) (h.2 k a (rw n g)))
+
+  pub inside-at : (p : ℕ) → p < length l → eq (at l p) x ≡ true → ((k : ℕ) → k < p → eq (at l k) x ≡ false) → At p ≡ inside s x
+  unfolding inside
+  inside-at p h t f =
+      let b : p < s.count = rw counted at h in
+      let here : meets s x p ≡ true = rw (← read p b) t in
+      let none = some_no p (meets s x) (λ k g. let d : k < s.count = omega arith in rw (← read k d) (f k g)) in
+      pick_true _ _ (sym (some_stop p s.count (meets s x) b here)) (ap At (position_stop p s.count (meets s x) b (sym none) here))
+
+  pub inside-free : ((k : ℕ) → k < length l → eq (at l k) x ≡ false) → Free (below s x) ≡ inside s x
+  unfolding inside
+  inside-free f = pick_false _ _ (some_no s.count (meets s x) (λ k g. rw (← read k g) (f k (rw counted g)))) refl
+
 -- so do those of n variables that are made by index
-module _ (n : ℕ) (segments : List Segments) (o r : List Spot) where
+module _ (n : ℕ) (segments : List Segments) (o r : List State) where
   pub tab-placed : (g : ℕ → State) → ((i : ℕ) → i < n → Placed (segments_at segments i) (g i)) →
-      r ≡ over (tab n (λ i. record { state = g i })) o → AllPlaced n segments r
+      r ≡ over (tab n g) o → AllPlaced n segments r
   tab-placed g h q i l =
-      let spot : ℕ → Spot = λ i. record { state = g i } in
-      let k : i < length (tab n spot) = rw (length-tab n spot) l in
-      let e : state_at r i ≡ g i =
-      ap (λ (t : List Spot). state_at t i) q ∙ ap (λ (t : Spot). t.state) (over_in first (tab n spot) o i k ∙ get_d_tab first n i spot l) in
+      let k : i < length (tab n g) = rw (length-tab n g) l in
+      let e : state_at r i ≡ g i = ap (λ (t : List State). state_at t i) q ∙ over_in first (tab n g) o i k ∙ get_d_tab first n i g l in
       subst (λ (t : State). Placed (segments_at segments i) t) (sym e) (h i l)
 
 -- ---- a held variable is not free, and a free one is in one segment, which lies between two points
@@ -77,22 +118,22 @@ pub free-within : (s : Segments) (t : State) (j : ℕ) → t ≡ Free j → Plac
 free-within s t j e h = subst (λ (u : State). Placed s u) e h
 
 -- every variable stays placed where one is placed anew
-module _ (n : ℕ) (segments : List Segments) (state : List Spot) (i : ℕ) (t : State) where
-  abbrev after : List Spot
-  after = set state i (record { state = t })
+module _ (n : ℕ) (segments : List Segments) (state : List State) (i : ℕ) (t : State) where
+  abbrev after : List State
+  after = set state i t
 
   pub set-placed : i < length state → Placed (segments_at segments i) t → AllPlaced n segments state →
-      AllPlaced n segments (set state i (record { state = t }))
+      AllPlaced n segments (set state i t)
   set-placed l h p k g = ⊎_elim here there (same-or-not k i)
     where
       here : k ≡ i → Placed (segments_at segments k) (state_at after k)
       here z =
-          let q : state_at after k ≡ t = rw z (ap (λ (u : Spot). u.state) (get_or-set_same state i (record { state = t }) first l)) in
+          let q : state_at after k ≡ t = rw z (get_or-set_same state i t first l) in
           subst (λ (u : State). Placed (segments_at segments k) u) (sym q) (subst (λ (a : ℕ). Placed (segments_at segments a) t) (sym z) h)
 
       there : (k ≡ i → ⊥) → Placed (segments_at segments k) (state_at after k)
       there f =
-          let q : state_at after k ≡ state_at state k = ap (λ (u : Spot). u.state) (get_or-set_other state i k (record { state = t }) first f) in
+          let q : state_at after k ≡ state_at state k = get_or-set_other state i k t first f in
           subst (λ (u : State). Placed (segments_at segments k) u) (sym q) (p k g)
 
 -- and where all are freed at once
@@ -101,7 +142,7 @@ unfolding freed
 freed-placed s cut (At p) h = omega arith
 freed-placed s cut (Free j) h = h
 
-pub free-all-placed : (n : ℕ) (segments : List Segments) (fixed : List Bool) (state : List Spot) → AllCut n segments → AllPlaced n segments state →
+pub free-all-placed : (n : ℕ) (segments : List Segments) (fixed : List Bool) (state : List State) → AllCut n segments → AllPlaced n segments state →
     AllPlaced n segments (free_all n segments fixed state)
 unfolding free_all
 free-all-placed n segments fixed state cut placed =

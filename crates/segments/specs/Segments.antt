@@ -6,7 +6,6 @@ use Rattle.arith.specs.Float.{fneg, f0}
 use Rattle.segments.specs.declared.Segments.{Segments}
 use Rattle.segments.specs.declared.State.{State}
 use Rattle.segments.specs.declared.State.TheVariants.{At, Free}
-use Rattle.segments.specs.declared.Spot.{Spot}
 
 -- `slope > 0.0 && lower < at && at < upper`
 unfoldable pub cuts : (lower upper at slope : Float) → Bool
@@ -45,11 +44,11 @@ Placed s (Free j) = j < last s
 abbrev pub segments_at : List Segments → (i : ℕ) → Segments
 segments_at l i = get_or l i (record { points = []; slopes = []; count = 0 })
 
-abbrev pub state_at : List Spot → (i : ℕ) → State
-state_at l i = (get_or l i (record { state = At 0 })).state
+abbrev pub state_at : List State → (i : ℕ) → State
+state_at l i = get_or l i (At 0)
 
 abbrev pub AllCut : (n : ℕ) → List Segments → Type 0
 AllCut n segments = (i : ℕ) → i < n → Cut (segments_at segments i)
 
-abbrev pub AllPlaced : (n : ℕ) → List Segments → List Spot → Type 0
+abbrev pub AllPlaced : (n : ℕ) → List Segments → List State → Type 0
 AllPlaced n segments state = (i : ℕ) → i < n → Placed (segments_at segments i) (state_at state i)

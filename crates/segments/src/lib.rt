@@ -1,8 +1,7 @@
 // qp.rs: `Segments`, `State`, a variable's start in `solve_piecewise_in_units`, and the freeing of all, up to 48 variables and slacks.
 #![tactic(auto)]
 
-ghost use Rattle.std.specs.Prelude.{◌≡◌, ◌≤◌, ◌<◌, min, length};
-ghost use Rattle.folds.specs.Fold.{pick};
+ghost use Rattle.std.specs.Prelude.{◌≡◌, ◌≤◌, ◌<◌, length, take};
 ghost use Rattle.sizes.specs.Sizes as Sizes;
 ghost use Rattle.arith.specs.Float.{at as element_at};
 ghost use Rattle.segments.specs.Segments as Definition;
@@ -11,7 +10,7 @@ ghost use Rattle.segments.specs.Start as Start;
 ghost use Rattle.segments.specs.Freeing as Freeing;
 
 // One variable's range, cut at its kink when that lies strictly inside: `count` points, and a slope for each segment between two of them.
-// What stands past them is never read.
+// What stands past them is never read: without a heap, arrays of three and two, and a count.
 #[derive(Clone, Copy)]
 pub struct Segments {
     pub points: [f64; 3],
@@ -24,12 +23,6 @@ pub struct Segments {
 pub enum State {
     At(usize),
     Free(usize),
-}
-
-// A place of an array of states, which may hold structs alone.
-#[derive(Clone, Copy)]
-pub struct Spot {
-    pub state: State,
 }
 
 // The segment that a free variable is in. No other is asked: the source's two `unreachable!`.
@@ -46,12 +39,7 @@ pub fn segment_of(state: State) -> usize
 fn cuts(lower: f64, upper: f64, at: f64, slope: f64) -> bool
     ensures { result ≡ Definition.cuts lower upper at slope }
 {
-    if slope > 0.0 {
-        if lower < at {
-            return at < upper;
-        }
-    }
-    false
+    slope > 0.0 && lower < at && at < upper
 }
 
 // The slope of a range that its kink doesn't cut.
@@ -65,15 +53,6 @@ fn side(lower: f64, at: f64, slope: f64) -> f64
         return -slope;
     }
     0.0
-}
-
-fn either(on: bool, a: usize, b: usize) -> usize
-    ensures { result ≡ pick on a b }
-{
-    if on {
-        return a;
-    }
-    b
 }
 
 impl Segments {
@@ -107,16 +86,14 @@ impl Segments {
         requires { Cut self × (p ≤ Definition.last self) }
         ensures { result ≡ element_at self.points p }
     {
-        let points = self.points;
-        points[p]
+        self.points[p]
     }
 
     pub fn slope(self, j: usize) -> f64
         requires { Cut self × (j < Definition.last self) }
         ensures { result ≡ element_at self.slopes j }
     {
-        let slopes = self.slopes;
-        slopes[j]
+        self.slopes[j]
     }
 
     // A lower bound at or above the upper.
@@ -138,18 +115,20 @@ impl Segments {
         arith::clamp(start, self.point(0), self.point(self.last()))
     }
 
+    // The points that count.
+    fn points(&self) -> &[f64]
+        requires { Cut self.now }
+        ensures { result.now ≡ take self.now.count self.now.points }
+    {
+        &self.points[..self.count]
+    }
+
     // The last point below x, or 0.
     fn below(self, x: f64) -> usize
         requires { Cut self }
         ensures { result ≡ Start.below self x }
     {
-        let points = self.points;
-        let count = self.count;
-        let mut j = 0;
-        for p in 0..count {
-            j = either(points[p] < x, p, j);
-        }
-        j
+        self.points().iter().rposition(|p| *p < x).unwrap_or(0)
     }
 
     // The first point equal to x, or else the segment x is in.
@@ -157,14 +136,10 @@ impl Segments {
         requires { Cut self }
         ensures { result ≡ Start.inside self x }
     {
-        let points = self.points;
-        let count = self.count;
-        for p in 0..count {
-            if points[p] == x {
-                return State::At(p);
-            }
+        match self.points().iter().position(|p| *p == x) {
+            Some(p) => State::At(p),
+            None => State::Free(self.below(x)),
         }
-        State::Free(self.below(x))
     }
 
     // Where a variable at x starts.
@@ -186,53 +161,41 @@ impl Segments {
     }
 }
 
-fn min(a: usize, b: usize) -> usize
-    ensures { result ≡ min a b }
-{
-    if a <= b {
-        return a;
-    }
-    b
-}
-
 // A held variable goes into the segment above its point, or the last one.
 fn freed(state: State, s: Segments) -> State
     requires { Cut s }
     ensures { result ≡ Freeing.freed state s }
 {
     match state {
-        State::At(p) => State::Free(min(p, s.last() - 1)),
+        State::At(p) => State::Free(p.min(s.last() - 1)),
         State::Free(j) => State::Free(j),
     }
 }
 
-fn free_one(fixed: bool, spot: Spot, s: Segments) -> State
+fn free_one(fixed: bool, state: State, s: Segments) -> State
     requires { Cut s }
-    ensures { result ≡ Freeing.free_one fixed spot.state s }
+    ensures { result ≡ Freeing.free_one fixed state s }
 {
-    let state = spot.state;
     if fixed {
         return state;
     }
     freed(state, s)
 }
 
-// Every one of the first n that isn't fixed is freed at once.
+// Every one of the first n that isn't fixed is freed at once. By index: of what is written through a zip's `iter_mut` the library says nothing.
 pub fn free_all(
-    state: [Spot; sizes::VARIABLES],
+    state: [State; sizes::VARIABLES],
     segments: [Segments; sizes::VARIABLES],
     fixed: &[bool],
     n: usize,
-) -> [Spot; sizes::VARIABLES]
+) -> [State; sizes::VARIABLES]
     requires { (n ≤ Sizes.variables) × (n ≤ length fixed.now) × AllCut n segments × AllPlaced n segments state }
     ensures value { result ≡ Freeing.free_all n segments fixed.now state }
     ensures all_placed { AllPlaced n segments result }
 {
     let mut next = state;
     for i in 0..n {
-        next[i] = Spot {
-            state: free_one(fixed[i], next[i], segments[i]),
-        };
+        next[i] = free_one(fixed[i], next[i], segments[i]);
     }
     next
 }

@@ -33,6 +33,7 @@ fn slack_scales(scales: &[f64], a: &[f64], n: usize, r: usize, y: &mut [f64])
     requires { (n ≤ length scales.now) × (n * r ≤ length a.now) × (r ≤ length y.old) }
     ensures { y.new ≡ over (SlackScales.slack_scales n r scales.now a.now) y.old }
 {
+    // By the column's number: the columns lie in one slice.
     for j in 0..r {
         y[j] = slack_scale(scales, columns::column(a, n, r, j), n);
     }

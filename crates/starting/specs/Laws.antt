@@ -4,7 +4,7 @@ use Rattle.folds.specs.Fold.{over}
 use Rattle.folds.specs.Tab.{length-tab}
 use Rattle.arith.specs.Float.{at}
 use Rattle.segments.specs.declared.Segments.{Segments}
-use Rattle.segments.specs.declared.Spot.{Spot}
+use Rattle.segments.specs.declared.State.{State}
 use Rattle.segments.specs.Segments.{segments_at, AllCut, AllPlaced}
 use Rattle.segments.specs.Start.{place}
 use Rattle.segments.specs.Laws.{place-placed, tab-placed}
@@ -15,7 +15,7 @@ pub length-all_fixed : (n : ℕ) (segments : List Segments) → length (all_fixe
 unfolding all_fixed
 length-all_fixed n segments = length-tab n _
 
-pub all-placed : (n : ℕ) (segments : List Segments) (o r : List Spot) (x : List Float) → AllCut n segments → r ≡ over (all_placed n segments x) o →
+pub all-placed : (n : ℕ) (segments : List Segments) (o r : List State) (x : List Float) → AllCut n segments → r ≡ over (all_placed n segments x) o →
     AllPlaced n segments r
 unfolding all_placed
 all-placed n segments o r x cut q =

@@ -1,15 +1,14 @@
 -- qp.rs, `solve_piecewise_in_units` before its passes: which of n variables are fixed, the start held to its range, each variable's first state, and
 -- the largest slope.
-use Rattle.std.specs.Prelude.{ℕ, Bool, false, List, take, replicate, Float}
+use Rattle.std.specs.Prelude.{ℕ, Bool, false, List, take, replicate, Float, None}
 use Rattle.folds.specs.Fold.{fold, tab, over}
 use Rattle.sizes.specs.Sizes as Sizes
 use Rattle.arith.specs.Float.{f0, at}
 use Rattle.arith.specs.Scalar.{abs, max}
 use Rattle.segments.specs.declared.Segments.{Segments}
-use Rattle.segments.specs.declared.Spot.{Spot}
+use Rattle.segments.specs.declared.State.{State}
 use Rattle.segments.specs.Segments.{last, segments_at}
 use Rattle.segments.specs.Start.{fixed, held, place, first}
-use Rattle.blocking.specs.declared.Released.TheVariants.{NoOne}
 use Rattle.iterate.specs.declared.Iterate.{Iterate}
 
 -- `segments.iter().map(|s| s.points[0] >= s.points[s.last()]).collect()`
@@ -21,8 +20,8 @@ unfoldable pub all_held : (n : ℕ) (segments : List Segments) (start : List Flo
 all_held n segments start = tab n (λ i. held (segments_at segments i) (at start i))
 
 -- `(0..n).map(|i| ..).collect()`
-unfoldable pub all_placed : (n : ℕ) (segments : List Segments) (x : List Float) → List Spot
-all_placed n segments x = tab n (λ i. record { state = place (segments_at segments i) (at x i) })
+unfoldable pub all_placed : (n : ℕ) (segments : List Segments) (x : List Float) → List State
+all_placed n segments x = tab n (λ i. place (segments_at segments i) (at x i))
 
 -- `s.slopes.iter()`, `.fold(m, |m, s| m.max(s.abs()))`
 unfoldable pub slopes_amax : Segments → (m : Float) → Float
@@ -43,7 +42,7 @@ started n segments start =
             state = over (all_placed n segments (take n x)) (replicate Sizes.variables first);
             refused = replicate Sizes.variables false;
           };
-      released = NoOne;
+      released = None;
       freed = false;
       freed_at = replicate Sizes.variables f0;
     }

@@ -12,18 +12,18 @@ ghost use Rattle.segments.specs.Segments.{Cut, AllCut, AllPlaced};
 ghost use Rattle.segments.specs.Start.{first};
 ghost use Rattle.starting.specs.Starting as Starting;
 
-use blocking::{Board, Released};
+use blocking::Board;
 use iterate::{Iterate, Magnitudes};
-use segments::{Segments, Spot, State};
+use segments::{Segments, State};
 
+// This one and the next two go by index: of what is written through a zip's `iter_mut` the library says nothing.
 pub fn all_fixed(segments: [Segments; sizes::VARIABLES], n: usize) -> [bool; sizes::VARIABLES]
     requires { (n ≤ Sizes.variables) × AllCut n segments }
     ensures { result ≡ over (Starting.all_fixed n segments) (replicate Sizes.variables false) }
 {
     let mut fixed = [false; sizes::VARIABLES];
     for i in 0..n {
-        let s = segments[i];
-        fixed[i] = s.fixed();
+        fixed[i] = segments[i].fixed();
     }
     fixed
 }
@@ -38,8 +38,7 @@ pub fn all_held(
 {
     let mut x = [0.0; sizes::VARIABLES];
     for i in 0..n {
-        let s = segments[i];
-        x[i] = s.held(start[i]);
+        x[i] = segments[i].held(start[i]);
     }
     x
 }
@@ -48,19 +47,14 @@ pub fn all_placed(
     segments: [Segments; sizes::VARIABLES],
     n: usize,
     x: &[f64],
-) -> [Spot; sizes::VARIABLES]
+) -> [State; sizes::VARIABLES]
     requires { (n ≤ Sizes.variables) × (n ≤ length x.now) × AllCut n segments }
     ensures value { result ≡ over (Starting.all_placed n segments x.now) (replicate Sizes.variables first) }
     ensures all_placed { AllPlaced n segments result }
 {
-    let mut state = [Spot {
-        state: State::At(0),
-    }; sizes::VARIABLES];
+    let mut state = [State::At(0); sizes::VARIABLES];
     for i in 0..n {
-        let s = segments[i];
-        state[i] = Spot {
-            state: s.place(x[i]),
-        };
+        state[i] = segments[i].place(x[i]);
     }
     state
 }
@@ -69,11 +63,9 @@ fn slopes_amax(s: Segments, from: f64) -> f64
     requires { Cut s }
     ensures { result ≡ Starting.slopes_amax s from }
 {
-    let slopes = s.slopes;
-    let last = s.last();
     let mut m = from;
-    for j in 0..last {
-        m = arith::max(m, arith::abs(slopes[j]));
+    for slope in &s.slopes[..s.last()] {
+        m = arith::max(m, arith::abs(*slope));
     }
     m
 }
@@ -84,8 +76,8 @@ pub fn slope_amax(segments: [Segments; sizes::VARIABLES], n: usize) -> f64
     ensures { result ≡ Starting.slope_amax n segments }
 {
     let mut m = 0.0;
-    for i in 0..n {
-        m = slopes_amax(segments[i], m);
+    for s in &segments[..n] {
+        m = slopes_amax(*s, m);
     }
     m
 }
@@ -116,14 +108,13 @@ pub fn started(segments: [Segments; sizes::VARIABLES], n: usize, start: &[f64]) 
     let x = all_held(segments, n, start);
     let state = all_placed(segments, n, &x[..n]);
     let board = Board {
-        x: x,
-        state: state,
+        x,
+        state,
         refused: [false; sizes::VARIABLES],
     };
-    let released = Released::NoOne;
     Iterate {
-        board: board,
-        released: released,
+        board,
+        released: None,
         freed: false,
         freed_at: [0.0; sizes::VARIABLES],
     }

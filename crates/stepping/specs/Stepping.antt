@@ -1,8 +1,8 @@
 -- qp.rs, in `solve_piecewise_in_units`: the free variables' moves, along a step and to a target, and whether x is where it was. `indices` are the
 -- free variables.
-use Rattle.std.specs.Prelude.{ℕ, Bool, true, false, List, length, set, Float}
+use Rattle.std.specs.Prelude.{ℕ, Bool, ◌||◌, false, List, length, set, Float}
 use Rattle.std.specs.Float.Ieee.{lt, eq}
-use Rattle.folds.specs.Fold.{fold, all, pick, Out, out}
+use Rattle.folds.specs.Fold.{fold, all, Out, out}
 use Rattle.arith.specs.Float.{fadd, fsub, fmul, at}
 use Rattle.arith.specs.Scalar.{abs, clamp}
 use Rattle.matrix.specs.Matrix.{index}
@@ -14,7 +14,7 @@ move_along indices x_free direction step lower upper x =
 
 -- `moved |= (next - x[i]).abs() > tolerance; x[i] = next;`
 unfoldable pub settle_one : (i : ℕ) (next tolerance : Float) → Out (List Float) → Out (List Float)
-settle_one i next tolerance (out moved x) = out (pick moved true (lt tolerance (abs (fsub next (at x i))))) (set x i next)
+settle_one i next tolerance (out moved x) = out (moved || lt tolerance (abs (fsub next (at x i)))) (set x i next)
 
 -- `let mut moved = false; for (k, &i) in indices.iter().enumerate() { let next = target[k].clamp(lower[k], upper[k]); .. }`
 unfoldable pub settle : (indices : List ℕ) (target lower upper : List Float) (tolerance : Float) (x : List Float) → Out (List Float)

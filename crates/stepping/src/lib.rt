@@ -1,7 +1,7 @@
 // qp.rs, in `solve_piecewise_in_units`: the free variables' moves, along a step and to a target, and whether x is where it was.
 #![tactic(auto)]
 
-ghost use Rattle.std.specs.Prelude.{◌≡◌, ◌≤◌, ◌<◌, length};
+ghost use Rattle.std.specs.Prelude.{◌≡◌, ◌≤◌, length};
 ghost use Rattle.folds.specs.Fold.{out};
 ghost use Rattle.vector.specs.Vector.{Below};
 ghost use Rattle.stepping.specs.Stepping as Stepping;
@@ -25,22 +25,9 @@ pub fn move_along(
         ≡ Stepping.move_along indices.now x_free.now direction.now step lower.now upper.now
         x.old }
 {
-    for k in 0..indices.len() {
-        x[indices[k]] = arith::clamp(x_free[k] + step * direction[k], lower[k], upper[k]);
+    for (k, i) in indices.iter().enumerate() {
+        x[*i] = arith::clamp(x_free[k] + step * direction[k], lower[k], upper[k]);
     }
-}
-
-// Puts variable i at `next`; whether that or one before it moved by more than the tolerance.
-fn settle_one(x: &mut [f64], i: usize, next: f64, tolerance: f64, moved: bool) -> bool
-    requires { i < length x.old }
-    ensures { out result x.new ≡ Stepping.settle_one i next tolerance (out moved x.old) }
-{
-    let moves = arith::abs(next - x[i]) > tolerance;
-    x[i] = next;
-    if moved {
-        return true;
-    }
-    moves
 }
 
 // Puts the variables `indices` at their target, each held between its ends; whether one of them moved by more than the tolerance.
@@ -60,9 +47,10 @@ pub fn settle(
         ≡ Stepping.settle indices.now target.now lower.now upper.now tolerance x.old }
 {
     let mut moved = false;
-    for k in 0..indices.len() {
+    for (k, i) in indices.iter().enumerate() {
         let next = arith::clamp(target[k], lower[k], upper[k]);
-        moved = settle_one(x, indices[k], next, tolerance, moved);
+        moved |= arith::abs(next - x[*i]) > tolerance;
+        x[*i] = next;
     }
     moved
 }
@@ -72,10 +60,5 @@ pub fn same_point(a: &[f64], b: &[f64], n: usize) -> bool
     requires { (n ≤ length a.now) × (n ≤ length b.now) }
     ensures { result ≡ Stepping.same_point n a.now b.now }
 {
-    for i in 0..n {
-        if a[i] == b[i] {} else {
-            return false;
-        }
-    }
-    true
+    a[..n] == b[..n]
 }

@@ -2,7 +2,7 @@ use Rattle.folds.specs.Kit.{◌≡◌, ◌<◌, sym, ◌∙◌, refl, arith, len
 use lib.ListN.{take}
 use Rattle.sizes.specs.Sizes as Sizes
 use Rattle.segments.specs.Segments.{last, segments_at}
-use Rattle.iterate.specs.Laws.{passed-more, passed-optimal, passed-not_converged, board_is, board_consistent}
+use Rattle.iterate.specs.Laws.{passed-more, passed-optimal, passed-failed, board_is, board_consistent}
 use Rattle.release_at.specs.Laws.{release_enters}
 use Rattle.advance.specs.Advance.{decided}
 use Rattle.advance.specs.Laws.{entered-placed}
@@ -37,8 +37,9 @@ returns-in-Enter c =
 pub returns-in-Answer : goal.returns-in-Answer
 unfolding decided
 returns-in-Answer c =
-    let w = c.with_board-in-Answer.ensures in record {
-      result_value = passed-optimal _ _ _ refl
+    let e = c.ended-in-Answer.ensures in
+    let w = e.1 ∙ c.with_board-in-Answer.ensures in record {
+      result_value = passed-optimal _ _ c.ended-in-Answer.result e.0
           ∙ rw (w, board_is, ← c.release-outcome.ensures, c.in-Answer.is);
       consistent = rw w (board_consistent c.args.counts.n c.args.segments c.args.iterate c.args.board _ c.requires.2);
     }
@@ -47,7 +48,7 @@ pub returns-in-NotConverged : goal.returns-in-NotConverged
 unfolding decided
 returns-in-NotConverged c =
     let e = c.ended-in-NotConverged.ensures in record {
-      result_value = passed-not_converged _ _ c.ended-in-NotConverged.result e.0
+      result_value = passed-failed _ _ c.ended-in-NotConverged.result e.0
           ∙ rw (← c.release-outcome.ensures, c.in-NotConverged.is);
       consistent = rw e.1 c.requires.3;
     }

@@ -19,6 +19,6 @@ unfolding settled cleared pick
 returns-then-moved c =
     rw (← c.settle-moved.ensures, c.if-moved.true, refused-length (goal.at.returns-then-moved c).Start)
 
-pub returns : goal.returns
+pub returns-else-moved : goal.returns-else-moved
 unfolding settled cleared pick
-returns c = rw (← c.settle-moved.ensures, c.if-moved.false)
+returns-else-moved c = rw (← c.settle-moved.ensures, c.if-moved.false)

@@ -1,4 +1,5 @@
-use Rattle.folds.specs.Kit.{arith, rules}
+use Rattle.folds.specs.Kit.{◌≡◌, arith, length, rules}
+use Rattle.sizes.specs.Sizes as Sizes
 use Rattle.lent_segments.specs.Laws.{free_in}
 use Rattle.blocked_step.specs.BlockedStep.{move_and_block}
 use Rattle.blocked_step.proofs.move_and_block.Goals as goal
@@ -16,11 +17,12 @@ move_along-requires c =
       p.1.upper_holds,
     )
 
-pub block_of-requires : goal.block_of-requires
-block_of-requires c =
-    (c.requires.0.below _ c.requires.2, c.requires.0.inside _ c.requires.2)
+pub block-requires : goal.block-requires
+block-requires c =
+    let below = c.requires.0.below _ c.requires.2 in
+    let room : length c.args.segments ≡ Sizes.variables = search rules in (omega arith, below, c.requires.0.inside _ c.requires.2)
 
 pub returns : goal.returns
 unfolding move_and_block
 returns c =
-    rw (← c.move_along.ensures) (c.block_of.ensures _ (free_in _ (c.requires.0.inside _ c.requires.2).free))
+    rw (← c.move_along.ensures) (c.block.ensures _ (free_in _ (c.requires.0.inside _ c.requires.2).free))

@@ -1,4 +1,4 @@
-use Rattle.folds.specs.Kit.{◌<◌, arith, kit}
+use Rattle.folds.specs.Kit.{◌<◌, arith}
 use Rattle.segments.specs.Segments.{last}
 use Rattle.segments.specs.Laws.{free-same, free-within}
 use Rattle.blocking.specs.Laws.{end_within}

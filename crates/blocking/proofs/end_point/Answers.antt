@@ -1,4 +1,3 @@
-use Rattle.folds.specs.Kit.{kit}
 use Rattle.blocking.specs.Blocking.{end_point}
 use Rattle.blocking.proofs.end_point.Goals as goal
 

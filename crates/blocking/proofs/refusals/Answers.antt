@@ -1,4 +1,4 @@
-use Rattle.folds.specs.Kit.{◌≡◌, true, length, rules, kit, pick}
+use Rattle.folds.specs.Kit.{◌≡◌, true, length, rules, pick}
 use lib.Ieee.{lt}
 use Rattle.sizes.specs.Sizes as Sizes
 use Rattle.arith.specs.Float.{f0}
@@ -13,10 +13,10 @@ pub returns-then-step : goal.returns-then-step
 unfolding refusals pick
 returns-then-step c = let above : lt f0 c.args.step ≡ true = c.if-step.true in rw (above, refused-length (goal.at.returns-then-step c).Start)
 
-pub returns-then-just_released : goal.returns-then-just_released
+pub returns-then-eq : goal.returns-then-eq
 unfolding refusals pick
-returns-then-just_released c = rw (c.if-step.false, ← c.just_released.ensures, c.if-just_released.true)
+returns-then-eq c = rw (c.if-step.false, ← c.eq.ensures, c.if-eq.true)
 
 pub returns : goal.returns
 unfolding refusals pick
-returns c = rw (c.if-step.false, ← c.just_released.ensures, c.if-just_released.false)
+returns c = rw (c.if-step.false, ← c.eq.ensures, c.if-eq.false)

@@ -1,4 +1,4 @@
 use Rattle.free_list.proofs.ends_and_slopes.Goals as goal
 
 pub returns : goal.returns
-returns c = c.ends_and_slopes_of.ensures
+returns c = c.ends_and_slopes.ensures

@@ -1,33 +1,32 @@
-use Rattle.folds.specs.Kit.{ℕ, Bool, arith, length, get_or, rules, sym}
+use Rattle.std.specs.Prelude.{MatchOption}
+use Rattle.folds.specs.Kit.{◌<◌, ◌≤◌, ℕ, Bool, length, get_or, rules, sym}
 use lib.Dec.{leb}
-use lib.Seq.{take-length, length-take-le}
+use lib.Seq.{take-length}
 use borrow.Author.Tests.{le-leb, lt-leb}
-use Rattle.folds.specs.Fold.{some-none, some_turn, some_end}
+use Rattle.folds.specs.Fold.{some_no}
 use Rattle.folds.specs.Position.{partition_point, position_stop, position-none}
 use Rattle.free_list.proofs.split_slacks.Goals as goal
+use Rattle.free_list.proofs.split_slacks.Goals.{After-position}
 
-pub loop-i-init : goal.loop-i-init
-loop-i-init c = (search rules, some-none _)
+found : (c : After-position) → let l = c.args.indices.now in
+    MatchOption c.position.result ((k : ℕ) → k < length l → get_or l k 0 < c.args.originals)
+    (λ i. (i < length l) × (c.args.originals ≤ get_or l i 0) × ((k : ℕ) → k < i → get_or l k 0 < c.args.originals))
+found c = search rules
 
-pub slice_bounds-result-end : goal.slice_bounds-result-end
-slice_bounds-result-end c = sym (length-take-le _ _ (omega arith))
-
-pub returns-then-indices-i : goal.returns-then-indices-i
+pub returns-in-Some : goal.returns-in-Some
 unfolding partition_point
-returns-then-indices-i c =
-    let a = c.args in
-    let p : ℕ → Bool = λ k. leb a.originals (get_or a.indices.now k 0) in
-    let e = le-leb _ _ c.if-indices-i.true in
-    rw (← position_stop c.loop-i.i (length a.indices.now) p c.loop-i-test.true c.loop-i.invariant.1 e)
+returns-in-Some c =
+    let l = c.args.indices.now in
+    let p : ℕ → Bool = λ k. leb c.args.originals (get_or l k 0) in
+    let h = rw c.in-Some.is at (found (goal.at.returns-in-Some c).After-position) in
+    let before = some_no c.in-Some.count p (λ k g. lt-leb _ _ (h.2 k g)) in
+    rw (← position_stop c.in-Some.count (length l) p h.0 (sym before) (le-leb _ _ h.1))
 
-pub loop-i-preserved : goal.loop-i-preserved
-loop-i-preserved c = (omega arith, some_turn _ _ c.loop-i.invariant.1 (lt-leb _ _ c.if-indices-i.false))
-
-pub returns : goal.returns
+pub returns-in-None : goal.returns-in-None
 unfolding partition_point
-returns c =
-    let a = c.args in
-    let i = c.loop-i.invariant in
-    let p : ℕ → Bool = λ k. leb a.originals (get_or a.indices.now k 0) in
-    rw (← position-none (length a.indices.now) p (some_end c.loop-i.i (length a.indices.now) p i.0 c.loop-i-test.false i.1))
-    (sym (take-length a.indices.now))
+returns-in-None c =
+    let l = c.args.indices.now in
+    let p : ℕ → Bool = λ k. leb c.args.originals (get_or l k 0) in
+    let h = rw c.in-None.is at (found (goal.at.returns-in-None c).After-position) in
+    let none = some_no (length l) p (λ k g. lt-leb _ _ (h k g)) in
+    rw (← position-none (length l) p (sym none)) (sym (take-length l))

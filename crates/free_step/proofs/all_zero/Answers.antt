@@ -1,21 +1,17 @@
-use Rattle.folds.specs.Kit.{alls, rules}
+use Rattle.std.specs.Prelude.{take}
+use Rattle.std.proofs.Common.{rules, tests}
+use Rattle.std.proofs.lemmas.Iterator.{YieldsList-from_slice}
+use Rattle.std.proofs.lemmas.Iterator.Search.{all_from_yields_List}
+use lib.Ieee.{eq, nan}
+use Rattle.folds.specs.Kit.{◌∙◌}
+use Rattle.folds.specs.Lists.{all-listed}
+use Rattle.arith.specs.Float.{f0}
 use Rattle.free_step.specs.FreeStep.{all_zero}
 use Rattle.free_step.proofs.all_zero.Goals as goal
 
-ruleset kit = (alls, rules)
-
-pub loop-i-init : goal.loop-i-init
-unfolding all_zero
-loop-i-init c = search kit
-
-pub returns-else-a-i : goal.returns-else-a-i
-unfolding all_zero
-returns-else-a-i c = search kit
-
-pub loop-i-preserved : goal.loop-i-preserved
-unfolding all_zero
-loop-i-preserved c = search kit
-
 pub returns : goal.returns
 unfolding all_zero
-returns c = search kit
+returns c =
+    let a = c.args in
+    all_from_yields_List (λ v. eq v f0) _ _ _ c.all.ensures.ran (YieldsList-from_slice (take a.n a.a.now) cc) (λ x b q k. search (rules, tests))
+    ∙ all-listed nan (λ v. eq v f0) a.n a.a.now c.requires

@@ -4,7 +4,7 @@ use Rattle.folds.specs.Kit.{◌≡◌, ◌≤◌, ◌∙◌, arith, length, rule
 use native.Mathlib.Nat.{le_trans}
 use lib.Seq.{length-take-le}
 use Rattle.sizes.specs.Sizes as Sizes
-use Rattle.iterate.specs.Laws.{passed-singular}
+use Rattle.iterate.specs.Laws.{passed-failed}
 use Rattle.free_problem.specs.Laws.{parts}
 use Rattle.free_step.specs.FreeStep.{descend}
 use Rattle.free_step.proofs.descend.Goals as goal
@@ -16,7 +16,7 @@ returns-then-all_zero c =
     let a = c.args in
     let g = parts (length a.solved.now) a.counts.m a.free a.q_free.now a.e_free.now in
     let e = c.ended.ensures in record {
-      result_value = passed-singular _ _ c.ended.result e.0 ∙ rw (g.linear_is, ← c.all_zero.ensures, c.if-all_zero.true);
+      result_value = passed-failed _ _ c.ended.result e.0 ∙ rw (g.linear_is, ← c.all_zero.ensures, c.if-all_zero.true);
       consistent = rw e.1 c.requires.1;
     }
 

@@ -2,7 +2,7 @@ use Rattle.folds.specs.Kit.{◌≡◌, Bool, true, false, sym, ◌∙◌, pick}
 use lib.ListN.{take}
 use Rattle.sizes.specs.Sizes as Sizes
 use Rattle.vector.specs.Laws.{take_zeros}
-use Rattle.iterate.specs.Laws.{passed-more, passed-optimal, passed-not_converged}
+use Rattle.iterate.specs.Laws.{passed-more, passed-optimal, passed-failed}
 use Rattle.freeing.specs.Freeing.{all_true, freed_here, without_free}
 use Rattle.freeing.specs.Laws.{everything_consistent}
 use Rattle.freeing.proofs.without_free.Goals as goal
@@ -13,7 +13,7 @@ unfolding without_free pick
 returns-then-all_true c =
     let e = c.ended.ensures in
     let fixed : all_true c.args.originals c.args.fixed.now ≡ true = sym c.all_true.ensures ∙ c.if-all_true.true in record {
-      without_free = λ m h. passed-optimal c.args.n m c.ended.result e.0 ∙ rw (e.1, e.2, take_zeros m Sizes.columns h, fixed);
+      without_free = λ m h. passed-optimal c.args.n m c.ended.result e.0 ∙ rw (e.1, take_zeros m Sizes.columns h, fixed);
       consistent = rw e.1 c.requires.4;
     }
 
@@ -32,7 +32,7 @@ returns-then-freed_here c =
     let s = (goal.at.returns-then-freed_here c).Start in
     let e = c.ended-then-freed_here.ensures in
     let freed : here s ≡ true = sym c.freed_here.ensures ∙ c.if-freed_here.true in record {
-      without_free = λ m h. passed-not_converged c.args.n m c.ended-then-freed_here.result e.0 ∙ rw (not-fixed l, freed);
+      without_free = λ m h. passed-failed c.args.n m c.ended-then-freed_here.result e.0 ∙ rw (not-fixed l, freed);
       consistent = rw e.1 c.requires.4;
     }
 

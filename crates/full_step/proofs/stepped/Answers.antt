@@ -59,7 +59,7 @@ pub blocked_pass-requires : goal.blocked_pass-requires
 blocked_pass-requires c =
     let a = c.args in
     let p = c.requires in
-    let v = c.in-Found in
+    let v = c.in-Some in
     let k = few (goal.at.blocked_pass-requires c).Start in (
       listed a.counts.n a.iterate.board.state p.4 a.segments p.0.variables p.1 p.2.placed,
       record {
@@ -78,7 +78,7 @@ returns c =
     let a = c.args in
     let p = c.requires in record {
       result_value = c.blocked_pass.ensures.leaves a.counts.n a.counts.m
-          ∙ rw (← c.first_passed-hit.ensures, c.in-Found.is, taken-over _ _ (length-sub _ _ _) c.sub.ensures);
+          ∙ rw (← c.first_passed-hit.ensures, c.in-Some.is, taken-over _ _ (length-sub _ _ _) c.sub.ensures);
       consistent = c.blocked_pass.ensures.keeps a.counts.n (listed_below a.counts.n a.iterate.board.state p.4) p.2.placed;
     }
 

@@ -1,4 +1,4 @@
-use Rattle.folds.specs.Kit.{◌≤◌, arith, length, fold_call, over-tab, kit}
+use Rattle.folds.specs.Kit.{arith, length, fold_call, over-tab, kit}
 use lib.Ieee.{Float}
 use Rattle.lent_segments.specs.Lent.{entries}
 use Rattle.lent_segments.specs.declared.Segment.{Segment}
@@ -15,7 +15,7 @@ ends-segment-requires c =
 pub loop-t-preserved : goal.loop-t-preserved
 loop-t-preserved c =
     let i = c.loop-t.invariant in
-    (omega arith, fold_call _ _ _ i.1 (rw c.ends-segment.ensures), fold_call _ _ _ i.2 (rw c.ends-segment.ensures), fold_call _ _ _ i.3 (rw c.ends-segment.ensures))
+    (fold_call _ _ _ i.0 (rw c.ends-segment.ensures), fold_call _ _ _ i.1 (rw c.ends-segment.ensures), fold_call _ _ _ i.2 (rw c.ends-segment.ensures))
 
 pub returns : goal.returns
 unfolding entries
@@ -23,7 +23,7 @@ returns c =
     let i = c.loop-t.invariant in
     let n = length c.args.indices.now in
     let g = λ (read : Segment → Float). entry read c.args.indices.now c.args.segments.now c.args.state in (
-      over-tab _ n (g (λ s. s.lower)) _ i.0 c.loop-t-test.false (omega arith) i.1,
-      over-tab _ n (g (λ s. s.upper)) _ i.0 c.loop-t-test.false (omega arith) i.2,
-      over-tab _ n (g (λ s. s.slope)) _ i.0 c.loop-t-test.false (omega arith) i.3,
+      over-tab _ n (g (λ s. s.lower)) _ (omega arith) c.loop-t-test.false (omega arith) i.0,
+      over-tab _ n (g (λ s. s.upper)) _ (omega arith) c.loop-t-test.false (omega arith) i.1,
+      over-tab _ n (g (λ s. s.slope)) _ (omega arith) c.loop-t-test.false (omega arith) i.2,
     )

@@ -1,4 +1,4 @@
-use Rattle.folds.specs.Kit.{kit, pick}
+use Rattle.folds.specs.Kit.{pick}
 use Rattle.releasing.specs.Release.{release, outcome}
 use Rattle.releasing.proofs.release.Goals as goal
 
@@ -16,4 +16,4 @@ returns-in_default c =
 
 pub returns : goal.returns
 unfolding release outcome
-returns c = rw (← c.wrong_ones-wrong.ensures.0, c.in-Found.is)
+returns c = rw (← c.wrong_ones-wrong.ensures.0, c.in-Some.is)

@@ -1,4 +1,4 @@
-use Rattle.folds.specs.Kit.{kit, pick}
+use Rattle.folds.specs.Kit.{pick}
 use borrow.Author.Tests.{lt-ltb, le-ltb}
 use Rattle.releasing.specs.Release.{up}
 use Rattle.releasing.proofs.up.Goals as goal

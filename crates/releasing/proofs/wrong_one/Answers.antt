@@ -1,4 +1,4 @@
-use Rattle.folds.specs.Kit.{kit, pick}
+use Rattle.folds.specs.Kit.{pick}
 use mathlib.Core.Path.{subst}
 use Rattle.segments.specs.Segments.{Placed}
 use Rattle.releasing.specs.Release.{wrong_one, of_state}

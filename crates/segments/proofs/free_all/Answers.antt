@@ -1,7 +1,7 @@
-use Rattle.folds.specs.Kit.{over_edit, ◌≡◌, ◌-◌, ◌≤◌, false, ℕ, arith, set, get_or, fold, kit, fold_call}
+use Rattle.folds.specs.Kit.{over_edit, ◌≡◌, false, ℕ, arith, get_or, kit, fold_call}
 use Rattle.segments.specs.Segments.{segments_at}
 use Rattle.segments.specs.Start.{first}
-use Rattle.segments.specs.declared.Spot.{Spot}
+use Rattle.segments.specs.declared.State.{State}
 use Rattle.segments.specs.Freeing.{free_one, free_all}
 use Rattle.segments.specs.Laws.{free-all-placed}
 use Rattle.segments.proofs.free_all.Goals as goal
@@ -15,8 +15,8 @@ loop-i-preserved c = (omega arith, fold_call _ _ _ c.loop-i.invariant.1 (rw c.fr
 pub returns : goal.returns
 unfolding free_all
 returns c =
-    let step : ℕ → Spot → Spot =
-    λ t spot. record { state = free_one (get_or c.args.fixed.now t false) spot.state (segments_at c.args.segments t) } in
+    let step : ℕ → State → State =
+    λ t state. free_one (get_or c.args.fixed.now t false) state (segments_at c.args.segments t) in
     let e : c.loop-i.next ≡ free_all c.args.n c.args.segments c.args.fixed.now c.args.state =
     over_edit first _ _ step _ c.loop-i.invariant.0 c.loop-i-test.false (omega arith) c.loop-i.invariant.1 in
     record {

@@ -1,4 +1,4 @@
-use Rattle.folds.specs.Kit.{kit, pick}
+use Rattle.folds.specs.Kit.{pick}
 use Rattle.segments.specs.Freeing.{free_one}
 use Rattle.segments.proofs.free_one.Goals as goal
 

@@ -1,4 +1,3 @@
-use Rattle.folds.specs.Kit.{kit}
 use Rattle.segments.specs.Freeing.{freed}
 use Rattle.segments.proofs.freed.Goals as goal
 

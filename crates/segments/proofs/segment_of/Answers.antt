@@ -1,4 +1,3 @@
-use Rattle.folds.specs.Kit.{kit}
 use Rattle.segments.specs.Laws.{held-not-free}
 use Rattle.segments.proofs.segment_of.Goals as goal
 

@@ -5,4 +5,4 @@ use Rattle.segments.specs.Start.{place}
 use Rattle.starting.proofs.all_placed.Given as goal
 
 abbrev pub invariant-loop-i : goal.invariant-loop-i
-invariant-loop-i l = (l.i ≤ l.n) × (l.state ≡ fold l.i (λ t l'. set l' t (record { state = place (segments_at l.segments t) (at l.x t) })) l.initial.state)
+invariant-loop-i l = (l.i ≤ l.n) × (l.state ≡ fold l.i (λ t l'. set l' t (place (segments_at l.segments t) (at l.x t))) l.initial.state)

@@ -1,8 +1,8 @@
-use Rattle.folds.specs.Kit.{◌≡◌, ◌≤◌, fold}
+use Rattle.folds.specs.Kit.{◌≡◌, fold}
 use Rattle.arith.specs.Float.{f0}
 use Rattle.segments.specs.Segments.{segments_at}
 use Rattle.starting.specs.Starting.{slopes_amax}
 use Rattle.starting.proofs.slope_amax.Given as goal
 
-abbrev pub invariant-loop-i : goal.invariant-loop-i
-invariant-loop-i l = (l.i ≤ l.n) × (l.m ≡ fold l.i (λ k t. slopes_amax (segments_at l.segments k) t) f0)
+abbrev pub invariant-loop-s : goal.invariant-loop-s
+invariant-loop-s l = l.m ≡ fold l.s-index (λ k t. slopes_amax (segments_at l.fn.segments k) t) f0

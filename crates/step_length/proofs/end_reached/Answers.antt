@@ -1,4 +1,4 @@
-use Rattle.folds.specs.Kit.{kit, pick}
+use Rattle.folds.specs.Kit.{pick}
 use Rattle.step_length.specs.StepLength.{end_reached}
 use Rattle.step_length.proofs.end_reached.Goals as goal
 

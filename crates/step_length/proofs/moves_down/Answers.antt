@@ -1,4 +1,4 @@
-use Rattle.folds.specs.Kit.{kit, both}
+use Rattle.folds.specs.Kit.{both}
 use Rattle.step_length.specs.StepLength.{moves_down}
 use Rattle.step_length.proofs.moves_down.Goals as goal
 
@@ -6,6 +6,6 @@ pub returns-then-d-tolerance : goal.returns-then-d-tolerance
 unfolding moves_down both
 returns-then-d-tolerance c = rw c.if-d-tolerance.true c.is_finite.ensures
 
-pub returns : goal.returns
+pub returns-else-d-tolerance : goal.returns-else-d-tolerance
 unfolding moves_down both
-returns c = rw c.if-d-tolerance.false
+returns-else-d-tolerance c = rw c.if-d-tolerance.false

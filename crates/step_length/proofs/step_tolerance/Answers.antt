@@ -1,4 +1,3 @@
-use Rattle.folds.specs.Kit.{kit}
 use Rattle.step_length.specs.StepLength.{step_tolerance}
 use Rattle.step_length.proofs.step_tolerance.Goals as goal
 

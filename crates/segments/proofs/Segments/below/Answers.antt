@@ -1,15 +1,14 @@
-use Rattle.folds.specs.Kit.{◌≡◌, ◌-◌, ◌≤◌, arith, fold, kit, pick, fold_call}
+use Rattle.folds.specs.Kit.{◌≡◌, ◌<◌, ◌≤◌, ◌∙◌, ℕ, true, false, length, rules}
+use Rattle.std.specs.Prelude.{MatchOption}
 use lib.Ieee.{lt}
 use Rattle.arith.specs.Float.{at}
-use Rattle.segments.specs.Start.{below}
+use Rattle.segments.specs.Laws.{below-is}
 use Rattle.segments.proofs.Segments.below.Goals as goal
 
-pub loop-p-preserved : goal.loop-p-preserved
-loop-p-preserved c = (omega arith, fold_call _ _ _ c.loop-p.invariant.1 c.either-j.ensures)
-
-pub loop-p-init : goal.loop-p-init
-loop-p-init c = search kit
-
 pub returns : goal.returns
-unfolding below
-returns c = search kit
+returns c =
+    let l = c.points.result.now in
+    let h : MatchOption c.rposition.result ((k : ℕ) → k < length l → lt (at l k) c.args.x ≡ false)
+    (λ i. (i < length l) × (lt (at l i) c.args.x ≡ true) × ((k : ℕ) → i < k → k < length l → lt (at l k) c.args.x ≡ false)) = search rules in
+    let room : c.args.self.count ≤ length c.args.self.points = search rules in
+    c.unwrap_or.ensures ∙ below-is c.args.self room c.args.x c.points.ensures _ h

@@ -1,4 +1,3 @@
-use Rattle.folds.specs.Kit.{kit}
 use Rattle.segments.specs.Start.{fixed}
 use Rattle.segments.proofs.Segments.fixed.Goals as goal
 

@@ -1,4 +1,4 @@
-use Rattle.folds.specs.Kit.{kit, pick}
+use Rattle.folds.specs.Kit.{pick}
 use Rattle.segments.specs.Start.{held}
 use Rattle.segments.proofs.Segments.held.Goals as goal
 

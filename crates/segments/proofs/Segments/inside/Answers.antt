@@ -1,28 +1,25 @@
-use Rattle.folds.specs.Kit.{some, somes, pick_true, pick_false, ap, ◌≡◌, ◌-◌, ◌≤◌, kit, rules, sym}
-use mathlib.Core.Bool.{false}
+use Rattle.folds.specs.Kit.{◌≡◌, ◌<◌, ◌≤◌, ◌∙◌, ℕ, true, false, ap, length, rules}
+use Rattle.std.specs.Prelude.{MatchOption}
 use lib.Ieee.{eq}
 use Rattle.arith.specs.Float.{at}
-use Rattle.folds.specs.Fold.{some_stop, some_end}
-use Rattle.folds.specs.Position.{position_stop}
-use Rattle.segments.specs.declared.State.TheVariants.{At, Free}
-use Rattle.segments.specs.Start.{inside, meets}
+use Rattle.segments.specs.declared.State.TheVariants.{Free}
+use Rattle.segments.specs.Laws.{inside-at, inside-free}
 use Rattle.segments.proofs.Segments.inside.Goals as goal
+use Rattle.segments.proofs.Segments.inside.Goals.{After-position}
 
-pub returns-then-points-p : goal.returns-then-points-p
-unfolding inside
-returns-then-points-p c =
-    let m = meets c.args.self c.args.x in
-    let l = c.loop-p-test.true in
-    pick_true _ _ (sym (some_stop _ _ m l c.if-points-p.true)) (ap At (position_stop _ _ m l c.loop-p.invariant.1 c.if-points-p.true))
+found : (c : After-position) → let l = c.points.result.now in
+    MatchOption c.position.result ((k : ℕ) → k < length l → eq (at l k) c.args.x ≡ false)
+    (λ i. (i < length l) × (eq (at l i) c.args.x ≡ true) × ((k : ℕ) → k < i → eq (at l k) c.args.x ≡ false))
+found c = search rules
 
-pub returns : goal.returns
-unfolding inside
-returns c =
-    let i = c.loop-p.invariant in
-    pick_false _ _ (sym (some_end _ _ (meets c.args.self c.args.x) i.0 c.loop-p-test.false i.1)) (ap Free c.below.ensures)
+pub returns-in-Some : goal.returns-in-Some
+returns-in-Some c =
+    let room : c.args.self.count ≤ length c.args.self.points = search rules in
+    let h = rw c.in-Some.is at (found (goal.at.returns-in-Some c).After-position) in
+    inside-at c.args.self room c.args.x c.points.ensures c.in-Some.p h.0 h.1 h.2
 
-pub loop-p-init : goal.loop-p-init
-loop-p-init c = search (somes, rules)
-
-pub loop-p-preserved : goal.loop-p-preserved
-loop-p-preserved c = search (somes, rules)
+pub returns-in-None : goal.returns-in-None
+returns-in-None c =
+    let room : c.args.self.count ≤ length c.args.self.points = search rules in
+    let h = rw c.in-None.is at (found (goal.at.returns-in-None c).After-position) in
+    ap Free c.below.ensures ∙ inside-free c.args.self room c.args.x c.points.ensures h
