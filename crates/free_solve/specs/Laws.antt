@@ -1,5 +1,5 @@
 -- Laws of the definitions: what the calls of a solve give, put together, and what a result holds.
-use Rattle.std.specs.Prelude.{◌≡◌, Bool, true, false, List, ℕ, ◌*◌, ◌≤◌, length, take, Float}
+use Rattle.std.specs.Prelude.{◌≡◌, Bool, true, false, Result, Ok, List, ℕ, ◌*◌, ◌≤◌, length, take, Float}
 use Rattle.std.proofs.Common.{sym, ◌∙◌, length-take-le}
 use Rattle.std.proofs.Math.Path.{ap}
 use Rattle.folds.specs.Fold.{pick}
@@ -11,10 +11,8 @@ use Rattle.factoring.specs.Laws.{held-is, update-regular}
 use Rattle.scaled.specs.System.{System, system}
 use Rattle.range_space.specs.Factored.{found_of}
 use Rattle.range_space.specs.Laws.{found-is}
-use Rattle.solution.specs.declared.KktVerdict.{KktVerdict}
-use Rattle.solution.specs.declared.KktVerdict.TheVariants.{Solved}
+use Rattle.solution.specs.declared.KktError.{KktError}
 use Rattle.solution.specs.Solution.{answer}
-use Rattle.solution.specs.Laws.{answer-solved}
 use Rattle.noisy_kkt.specs.NoisyKkt.{solve_noisy_kkt}
 use Rattle.free_problem.specs.declared.Free.{Free}
 use Rattle.free_problem.specs.FreeProblem.{Gathered, gathered_of}
@@ -46,13 +44,11 @@ module _ (f : Factoring) (l : List Float) (s : System) (noise : Float) where
 
     -- by whether the factored solve found an optimum
     pub after-found : found ≡ true →
-        solution_of (record { verdict = Solved; factoring = f }) x multipliers l ≡ solve_updated (factor (kept_of f) l) s noise
+        solution_of (record { verdict = Ok tt; factoring = f }) x multipliers l ≡ solve_updated (factor (kept_of f) l) s noise
     unfolding solution_of solve_updated matched pick
-    after-found t =
-        rw (← answered, found-is found x multipliers, t)
-        (ap (λ a. record { answer = a; factoring = kept_of f; factor = l }) (answer-solved x multipliers))
+    after-found t = rw (← answered, found-is found x multipliers, t)
 
-    pub after_missed : (d : Factoring) (v : KktVerdict) (y z : List Float) → found ≡ false → answer v y z ≡ solve_noisy_kkt s noise →
+    pub after_missed : (d : Factoring) (v : Result (Unit {0}) KktError) (y z : List Float) → found ≡ false → answer v y z ≡ solve_noisy_kkt s noise →
         kept_of d ≡ reset (kept_of f) → solution_of (record { verdict = v; factoring = d }) y z l ≡ solve_updated (factor (kept_of f) l) s noise
     unfolding solution_of solve_updated matched from_eigenvectors pick
     after_missed d v y z h a r = rw (← answered, found-is found x multipliers, h, a, r)

@@ -3,7 +3,7 @@
 #![tactic(auto)]
 
 ghost use Rattle.std.specs.Prelude.{◌≡◌, Bool, List, ℕ, ◌≤◌, ◌*◌, length, take};
-ghost use Rattle.scaled.specs.System.{Sized, system};
+ghost use Rattle.scaled.specs.Given.{system_of};
 ghost use Rattle.factoring.specs.Kept.{factor, option_of, kept_of, Good, Updatable};
 ghost use Rattle.range_space.specs.Factored.{found_of};
 ghost use Rattle.solution.specs.Solution.{answer};
@@ -15,13 +15,14 @@ ghost use Rattle.free_solve.specs.FreeSolve as Definition;
 use factoring::Factoring;
 use free_problem::Free;
 use iterate::Counts;
-use solution::KktVerdict;
+use scaled::System;
+use solution::KktError;
 
 // Whether there is a step, or why there is none, and the factoring that is left. The step stands over the start of the lent x, and its multipliers
 // over that of the lent multipliers.
 #[derive(Drop)]
 pub struct Solved {
-    pub verdict: KktVerdict,
+    pub verdict: Result<(), KktError>,
     pub factoring: Factoring,
 }
 
@@ -29,94 +30,69 @@ pub struct Solved {
 fn from_factor(
     factored: bool,
     l: &[f64],
-    k: &[f64],
-    c: &[f64],
-    e: &[f64],
-    b: &[f64],
-    n: usize,
-    m: usize,
+    system: &System,
     noise: f64,
     w: &mut [f64],
     gram: &mut [f64],
     x: &mut [f64],
     multipliers: &mut [f64],
 ) -> bool
-    requires { Sized n m k.now c.now e.now b.now
-        × Regular n factored l.now
-        × (n * m ≤ length w.old)
-        × (m * m ≤ length gram.old)
-        × (n ≤ length x.old)
-        × (m ≤ length multipliers.old) }
-    ensures { (held : List Bool) → found_of result (take n x.new) (take m multipliers.new)
-        ≡ Definition.from_factor (option_of factored held) l.now
-        (system n m k.now c.now e.now b.now) noise }
+    requires { Regular system.now.n factored l.now
+        × (system.now.n * system.now.m ≤ length w.old)
+        × (system.now.m * system.now.m ≤ length gram.old)
+        × (system.now.n ≤ length x.old)
+        × (system.now.m ≤ length multipliers.old) }
+    ensures { (held : List Bool) → found_of result (take system.now.n x.new) (take system.now.m multipliers.new)
+        ≡ Definition.from_factor (option_of factored held) l.now (system_of system.now) noise }
 {
-    if factored {
-        return range_space::solve_factored(l, k, c, e, b, n, m, noise, w, gram, x, multipliers);
-    }
-    false
+    factored && range_space::solve_factored(l, system, noise, w, gram, x, multipliers)
 }
 
-// The solve by the eigendecomposition, its answer over the starts of x and multipliers.
+// The solve by the eigendecomposition, its solution over the starts of x and multipliers.
 fn noisy(
-    k: &[f64],
-    c: &[f64],
-    e: &[f64],
-    b: &[f64],
-    n: usize,
-    m: usize,
+    system: &System,
     noise: f64,
     x: &mut [f64],
     multipliers: &mut [f64],
-) -> KktVerdict
-    requires { Sized n m k.now c.now e.now b.now × (n ≤ length x.old) × (m ≤ length multipliers.old) }
-    ensures { answer result (take n x.new) (take m multipliers.new)
-        ≡ solve_noisy_kkt (system n m k.now c.now e.now b.now) noise }
+) -> Result<(), KktError>
+    requires { (system.now.n ≤ length x.old) × (system.now.m ≤ length multipliers.old) }
+    ensures { answer result (take system.now.n x.new) (take system.now.m multipliers.new)
+        ≡ solve_noisy_kkt (system_of system.now) noise }
 {
-    let solution = noisy_kkt::solve_noisy_kkt(k, c, e, b, n, m, noise);
+    let n = system.n;
+    let m = system.m;
+    let solution = noisy_kkt::solve_noisy_kkt(system, noise)?;
     let x_noisy = solution.x;
     let multipliers_noisy = solution.multipliers;
     vector::copy(&x_noisy[..n], n, x);
     vector::copy(&multipliers_noisy[..m], m, multipliers);
-    solution.verdict
+    Ok(())
 }
 
 // The solve with the factor that `update` leaves; w and gram are work memory.
 fn solve_updated(
     factoring: Factoring,
     l: &[f64],
-    k: &[f64],
-    c: &[f64],
-    e: &[f64],
-    b: &[f64],
-    n: usize,
-    m: usize,
+    system: &System,
     noise: f64,
     w: &mut [f64],
     gram: &mut [f64],
     x: &mut [f64],
     multipliers: &mut [f64],
 ) -> Solved
-    requires { Sized n m k.now c.now e.now b.now
-        × Regular n factoring.factored l.now
-        × (n * m ≤ length w.old)
-        × (m * m ≤ length gram.old)
-        × (n ≤ length x.old)
-        × (m ≤ length multipliers.old) }
-    ensures l_after { Definition.solution_of result (take n x.new) (take m multipliers.new) l.now
-        ≡ Definition.solve_updated (factor (kept_of factoring) l.now)
-        (system n m k.now c.now e.now b.now) noise }
+    requires { Regular system.now.n factoring.factored l.now
+        × (system.now.n * system.now.m ≤ length w.old)
+        × (system.now.m * system.now.m ≤ length gram.old)
+        × (system.now.n ≤ length x.old)
+        × (system.now.m ≤ length multipliers.old) }
+    ensures l_after { Definition.solution_of result (take system.now.n x.new) (take system.now.m multipliers.new) l.now
+        ≡ Definition.solve_updated (factor (kept_of factoring) l.now) (system_of system.now) noise }
     ensures by_index { (o : ℕ) → Good o factoring l.now → Good o result.factoring l.now }
 {
     let found = from_factor(
         factoring.factored,
         l,
-        k,
-        c,
-        e,
-        b,
-        n,
-        m,
+        system,
         noise,
         w,
         gram,
@@ -125,14 +101,14 @@ fn solve_updated(
     );
     if found {
         return Solved {
-            verdict: KktVerdict::Solved,
-            factoring: factoring,
+            verdict: Ok(()),
+            factoring,
         };
     }
-    let verdict = noisy(k, c, e, b, n, m, noise, x, multipliers);
+    let verdict = noisy(system, noise, x, multipliers);
     let dropped = lent_factoring::dropped(factoring);
     Solved {
-        verdict: verdict,
+        verdict,
         factoring: dropped,
     }
 }
@@ -182,19 +158,13 @@ pub fn solve_free(
         l,
         room,
     );
-    solve_updated(
-        updated,
-        l,
-        &q_free[..square],
-        &gradient[..k],
-        &e_free[..entries],
-        &residual[..m],
-        k,
+    let problem = System {
+        k: &q_free[..square],
+        c: &gradient[..k],
+        e: &e_free[..entries],
+        b: &residual[..m],
+        n: k,
         m,
-        free.noise,
-        room,
-        gram,
-        x,
-        multipliers,
-    )
+    };
+    solve_updated(updated, l, &problem, free.noise, room, gram, x, multipliers)
 }

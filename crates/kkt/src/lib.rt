@@ -3,93 +3,68 @@
 
 ghost use Rattle.std.specs.Prelude.{◌≡◌, ◌≤◌, ◌*◌, length};
 ghost use Rattle.sizes.specs.Sizes as Sizes;
-ghost use Rattle.scaled.specs.System.{Sized, system};
+ghost use Rattle.scaled.specs.System.{system};
+ghost use Rattle.scaled.specs.Given.{system_of};
 ghost use Rattle.solution.specs.Solution.{solution_of};
 ghost use Rattle.kkt.specs.Kkt.{Answered};
 ghost use Rattle.kkt.specs.Kkt as Definition;
 
-use solution::Solution;
+use scaled::System;
+use solution::{KktError, Solution};
 
 // The solve in `Units`, and back; uk and ue are work memory.
-fn solve_in(
-    k: &[f64],
-    c: &[f64],
-    e: &[f64],
-    b: &[f64],
-    n: usize,
-    m: usize,
-    uk: &mut [f64],
-    ue: &mut [f64],
-) -> Solution
-    requires { Sized n m k.now c.now e.now b.now × (n * n ≤ length uk.old) × (n * m ≤ length ue.old) }
-    ensures { solution_of n m result
-        ≡ Definition.solve_units (system n m k.now c.now e.now b.now) }
+fn solve_in(system: &System, uk: &mut [f64], ue: &mut [f64]) -> Result<Solution, KktError>
+    requires { (system.now.n * system.now.n ≤ length uk.old) × (system.now.n * system.now.m ≤ length ue.old) }
+    ensures { solution_of system.now.n system.now.m result ≡ Definition.solve_units (system_of system.now) }
 {
-    let scales = units::diagonal_scales(k, n);
-    let columns = units::column_scales(e, n, m);
+    let n = system.n;
+    let m = system.m;
+    let scales = units::diagonal_scales(system.k, n);
+    let columns = units::column_scales(system.e, n, m);
     let square = n * n;
     let entries = n * m;
-    vector::copy(k, square, uk);
-    vector::copy(e, entries, ue);
+    vector::copy(system.k, square, uk);
+    vector::copy(system.e, entries, ue);
     units::units_k(uk, n, &scales[..n]);
     units::units_e(ue, n, m, &scales[..n], &columns[..m]);
-    let uc = dense::div(c, &scales[..n], n);
-    let ub = dense::div(b, &columns[..m], m);
-    let s = noisy_kkt::solve_noisy_kkt(
-        &uk[..square],
-        &uc[..n],
-        &ue[..entries],
-        &ub[..m],
+    let uc = dense::div(system.c, &scales[..n], n);
+    let ub = dense::div(system.b, &columns[..m], m);
+    let in_units = System {
+        k: &uk[..square],
+        c: &uc[..n],
+        e: &ue[..entries],
+        b: &ub[..m],
         n,
         m,
-        0.0,
-    );
-    let verdict = s.verdict;
-    let u = s.x;
-    let multipliers = s.multipliers;
-    kkt_original::original(
-        verdict,
-        u,
-        multipliers,
-        e,
-        b,
-        &scales[..n],
-        &columns[..m],
-        n,
-        m,
-    )
+    };
+    let s = noisy_kkt::solve_noisy_kkt(&in_units, 0.0);
+    kkt_original::original(s, system.e, system.b, &scales[..n], &columns[..m], n, m)
 }
 
-fn solve_small(k: &[f64], c: &[f64], e: &[f64], b: &[f64], n: usize, m: usize) -> Solution
-    requires { Sized n m k.now c.now e.now b.now × (n ≤ Sizes.few) × (m ≤ Sizes.equalities) }
-    ensures { solution_of n m result
-        ≡ Definition.solve_units (system n m k.now c.now e.now b.now) }
+// In work memory of SQUARE and TALL numbers.
+fn solve_within<const SQUARE: usize, const TALL: usize>(
+    system: &System,
+) -> Result<Solution, KktError>
+    requires { (system.now.n * system.now.n ≤ SQUARE)
+        × (system.now.n * system.now.m ≤ TALL)
+        × (SQUARE ≤ Sizes.originals * Sizes.originals)
+        × (TALL ≤ Sizes.originals * Sizes.columns) }
+    ensures { solution_of system.now.n system.now.m result ≡ Definition.solve_units (system_of system.now) }
 {
-    let mut uk = [0.0; sizes::SMALL];
-    let mut ue = [0.0; sizes::SMALL];
-    solve_in(k, c, e, b, n, m, &mut uk, &mut ue)
+    let mut uk = [0.0; SQUARE];
+    let mut ue = [0.0; TALL];
+    solve_in(system, &mut uk, &mut ue)
 }
 
-fn solve_large(k: &[f64], c: &[f64], e: &[f64], b: &[f64], n: usize, m: usize) -> Solution
-    requires { Sized n m k.now c.now e.now b.now }
-    ensures { solution_of n m result
-        ≡ Definition.solve_units (system n m k.now c.now e.now b.now) }
+// In work memory of its size.
+fn solve_shaped(system: &System) -> Result<Solution, KktError>
+    requires { system.now.m ≤ Sizes.equalities }
+    ensures { solution_of system.now.n system.now.m result ≡ Definition.solve_units (system_of system.now) }
 {
-    let mut uk = [0.0; sizes::SQUARE];
-    let mut ue = [0.0; sizes::TALL];
-    solve_in(k, c, e, b, n, m, &mut uk, &mut ue)
-}
-
-// The solve in work memory of its size.
-fn solve_shaped(k: &[f64], c: &[f64], e: &[f64], b: &[f64], n: usize, m: usize) -> Solution
-    requires { Sized n m k.now c.now e.now b.now × (m ≤ Sizes.equalities) }
-    ensures { solution_of n m result
-        ≡ Definition.solve_units (system n m k.now c.now e.now b.now) }
-{
-    if n <= sizes::FEW {
-        return solve_small(k, c, e, b, n, m);
+    if system.n <= sizes::FEW {
+        return solve_within::<{ sizes::SMALL }, { sizes::SMALL }>(system);
     }
-    solve_large(k, c, e, b, n, m)
+    solve_within::<{ sizes::SQUARE }, { sizes::TALL }>(system)
 }
 
 // Whether each slice has the length that the counts give it.
@@ -105,6 +80,7 @@ fn shaped(
 ) -> bool
     ensures { result ≡ Definition.shaped n m k c e b x multipliers }
 {
+    // A test at a time: the proof of one chain of && didn't close.
     if n > sizes::ORIGINALS {
         return false;
     }
@@ -143,7 +119,7 @@ pub fn solve_kkt(
     ensures { Answered (system n m k.now c.now e.now b.now) result
         x.old x.new multipliers.old multipliers.new }
 {
-    if shaped(
+    if !shaped(
         n,
         m,
         k.len(),
@@ -153,11 +129,8 @@ pub fn solve_kkt(
         x.len(),
         multipliers.len(),
     ) {
-        let s = solve_shaped(k, c, e, b, n, m);
-        let verdict = s.verdict;
-        let optimum = s.x;
-        let lambda = s.multipliers;
-        return outputs::write_solution(verdict, optimum, lambda, n, m, x, multipliers);
+        return 9;
     }
-    9
+    let system = System { k, c, e, b, n, m };
+    outputs::write_solution(solve_shaped(&system), n, m, x, multipliers)
 }

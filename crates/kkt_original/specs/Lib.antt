@@ -1,1 +1,2 @@
 pub mod Original
+pub mod Laws

@@ -1,6 +1,6 @@
 -- qp.rs, `solve_factored`: the KKT system of a positive definite K with the Cholesky factor l, by the range-space method.
 -- K is n by n, E is n by m; c and x have n elements, b and the multipliers m.
-use Rattle.std.specs.Prelude.{ℕ, ◌*◌, Bool, true, false, List, Float}
+use Rattle.std.specs.Prelude.{ℕ, ◌*◌, Bool, true, false, Option, Some, None, List, Float}
 use Rattle.folds.specs.Fold.{tab, pick, Out, out}
 use Rattle.reductions.specs.Reductions.{norm}
 use Rattle.vector.specs.Vector.{copy, add, sub, div}
@@ -9,8 +9,6 @@ use Rattle.matrix.specs.Matrix.{mul_vec, tr_mul_vec, tr_mul, columns_divided}
 use Rattle.triangular.specs.Triangular.{solve_lower, solve_lower_columns, tr_solve_lower, solve}
 use Rattle.scaled.specs.System.{System, system}
 use Rattle.scaled.specs.Scaled.{kkt_residual, within_rounding}
-use Rattle.scaled.specs.declared.Rounding.{Rounding}
-use Rattle.scaled.specs.declared.Rounding.TheVariants.{Overflowed, Outside, Within}
 use Rattle.factoring.specs.Kept.{definite}
 
 -- ---- the answer: `Some((x, multipliers))` or `None`
@@ -77,10 +75,10 @@ module _ (l w by g : List Float) where
   refined (system n m k c e b) = refine (system n m k c e b) (solve_once l w by g n m c b)
 
 -- ---- `within_rounding(kkt_residual((k, c, e, b), &x, &multipliers, noise))?.then_some((x, multipliers))`
-unfoldable pub judge : Rounding → (x multipliers : List Float) → FactoredSolution
-judge Within x multipliers = some x multipliers
-judge Outside x multipliers = none
-judge Overflowed x multipliers = none
+unfoldable pub judge : Option Bool → (x multipliers : List Float) → FactoredSolution
+judge (Some true) x multipliers = some x multipliers
+judge (Some false) x multipliers = none
+judge None x multipliers = none
 
 unfoldable pub judged : System → (noise : Float) → FactoredSolution → FactoredSolution
 judged s noise (some x multipliers) = judge (within_rounding (kkt_residual s x multipliers noise)) x multipliers

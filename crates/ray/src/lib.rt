@@ -6,10 +6,7 @@ ghost use Rattle.sizes.specs.Sizes as Sizes;
 ghost use Rattle.scaled_ray.specs.ScaledRay.{ray_of};
 ghost use Rattle.ray.specs.Ray as Definition;
 
-use scaled::Scale;
-use scaled_ray::Ray;
-
-// `Scaled::new` with Q's scale, and the ray.
+// `Scaled::new` with Q's scale, and the ray: a direction of zero curvature that lowers the objective, unless none is found.
 fn ray_by_in(
     q: &[f64],
     c: &[f64],
@@ -22,7 +19,7 @@ fn ray_by_in(
     coefficients: &mut [f64],
     range: &mut [f64],
     null: &mut [f64],
-) -> Ray
+) -> Option<[f64; sizes::VARIABLES]>
     requires { (n ≤ Sizes.originals)
         × (m ≤ Sizes.columns)
         × (n * n ≤ length q.now)
@@ -52,21 +49,31 @@ fn ray_by_in(
     )
 }
 
-fn ray_by_small(q: &[f64], c: &[f64], e: &[f64], n: usize, m: usize, scale: f64) -> Ray
+// In work memory of SQUARE and TALL numbers.
+fn ray_by_within<const SQUARE: usize, const TALL: usize>(
+    q: &[f64],
+    c: &[f64],
+    e: &[f64],
+    n: usize,
+    m: usize,
+    scale: f64,
+) -> Option<[f64; sizes::VARIABLES]>
     requires { (n ≤ Sizes.originals)
         × (m ≤ Sizes.columns)
         × (n * n ≤ length q.now)
         × (n ≤ length c.now)
         × (n * m ≤ length e.now)
-        × (n ≤ Sizes.few)
-        × (m ≤ Sizes.few) }
+        × (n * n ≤ SQUARE)
+        × (n * m ≤ TALL)
+        × (SQUARE ≤ Sizes.originals * Sizes.originals)
+        × (TALL ≤ Sizes.originals * Sizes.columns) }
     ensures { ray_of n result ≡ Definition.ray_by n m q.now c.now e.now scale }
 {
-    let mut ks = [0.0; sizes::SMALL];
-    let mut es = [0.0; sizes::SMALL];
-    let mut coefficients = [0.0; sizes::SMALL];
-    let mut range = [0.0; sizes::SMALL];
-    let mut null = [0.0; sizes::SMALL];
+    let mut ks = [0.0; SQUARE];
+    let mut es = [0.0; TALL];
+    let mut coefficients = [0.0; TALL];
+    let mut range = [0.0; TALL];
+    let mut null = [0.0; SQUARE];
     ray_by_in(
         q,
         c,
@@ -82,7 +89,15 @@ fn ray_by_small(q: &[f64], c: &[f64], e: &[f64], n: usize, m: usize, scale: f64)
     )
 }
 
-fn ray_by_large(q: &[f64], c: &[f64], e: &[f64], n: usize, m: usize, scale: f64) -> Ray
+// In work memory of its size.
+fn ray_by(
+    q: &[f64],
+    c: &[f64],
+    e: &[f64],
+    n: usize,
+    m: usize,
+    scale: f64,
+) -> Option<[f64; sizes::VARIABLES]>
     requires { (n ≤ Sizes.originals)
         × (m ≤ Sizes.columns)
         × (n * n ≤ length q.now)
@@ -90,44 +105,19 @@ fn ray_by_large(q: &[f64], c: &[f64], e: &[f64], n: usize, m: usize, scale: f64)
         × (n * m ≤ length e.now) }
     ensures { ray_of n result ≡ Definition.ray_by n m q.now c.now e.now scale }
 {
-    let mut ks = [0.0; sizes::SQUARE];
-    let mut es = [0.0; sizes::TALL];
-    let mut coefficients = [0.0; sizes::TALL];
-    let mut range = [0.0; sizes::TALL];
-    let mut null = [0.0; sizes::SQUARE];
-    ray_by_in(
-        q,
-        c,
-        e,
-        n,
-        m,
-        scale,
-        &mut ks,
-        &mut es,
-        &mut coefficients,
-        &mut range,
-        &mut null,
-    )
-}
-
-// The same in work memory of its size.
-fn ray_by(q: &[f64], c: &[f64], e: &[f64], n: usize, m: usize, scale: f64) -> Ray
-    requires { (n ≤ Sizes.originals)
-        × (m ≤ Sizes.columns)
-        × (n * n ≤ length q.now)
-        × (n ≤ length c.now)
-        × (n * m ≤ length e.now) }
-    ensures { ray_of n result ≡ Definition.ray_by n m q.now c.now e.now scale }
-{
-    if n <= sizes::FEW {
-        if m <= sizes::FEW {
-            return ray_by_small(q, c, e, n, m, scale);
-        }
+    if n <= sizes::FEW && m <= sizes::FEW {
+        return ray_by_within::<{ sizes::SMALL }, { sizes::SMALL }>(q, c, e, n, m, scale);
     }
-    ray_by_large(q, c, e, n, m, scale)
+    ray_by_within::<{ sizes::SQUARE }, { sizes::TALL }>(q, c, e, n, m, scale)
 }
 
-pub fn descent_ray(q: &[f64], c: &[f64], e: &[f64], n: usize, m: usize) -> Ray
+pub fn descent_ray(
+    q: &[f64],
+    c: &[f64],
+    e: &[f64],
+    n: usize,
+    m: usize,
+) -> Option<[f64; sizes::VARIABLES]>
     requires { (n ≤ Sizes.originals)
         × (m ≤ Sizes.columns)
         × (n * n ≤ length q.now)
@@ -135,8 +125,6 @@ pub fn descent_ray(q: &[f64], c: &[f64], e: &[f64], n: usize, m: usize) -> Ray
         × (n * m ≤ length e.now) }
     ensures { ray_of n result ≡ Definition.descent_ray n m q.now c.now e.now }
 {
-    match scaled::k_scale(q, n) {
-        Scale::By(scale) => ray_by(q, c, e, n, m, scale),
-        Scale::Refused => scaled_ray::refused(),
-    }
+    let scale = scaled::k_scale(q, n)?;
+    ray_by(q, c, e, n, m, scale)
 }

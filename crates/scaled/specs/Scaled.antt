@@ -1,5 +1,5 @@
 -- qp.rs, `kkt_residual`, `within_rounding` and `Scaled`. K is n by n, E is n by m; c and x have n elements, b and the multipliers m.
-use Rattle.std.specs.Prelude.{ℕ, ◌*◌, List, Float}
+use Rattle.std.specs.Prelude.{ℕ, ◌*◌, Bool, Option, Some, None, List, Float}
 use Rattle.std.specs.Float.{binary64}
 use Rattle.std.specs.Float.Ieee.{lt, le, eq, of_bits}
 use Rattle.folds.specs.Fold.{tab, pick}
@@ -11,10 +11,6 @@ use Rattle.columns.specs.Columns.{columns_amax}
 use Rattle.matrix.specs.Matrix.{trace, mul_vec, tr_mul_vec}
 use Rattle.scaled.specs.System.{System, system}
 use Rattle.scaled.specs.declared.Residual.{Residual}
-use Rattle.scaled.specs.declared.Rounding.{Rounding}
-use Rattle.scaled.specs.declared.Rounding.TheVariants.{Overflowed, Outside, Within}
-use Rattle.scaled.specs.declared.Scale.{Scale}
-use Rattle.scaled.specs.declared.Scale.TheVariants.{By, Refused}
 
 -- ---- `kkt_residual`: how far x and λ are from solving Kx + Eλ = c, Eᵀx = b, and the size of the terms that is a difference of
 unfoldable pub stationarity : (n m : ℕ) (k c e x multipliers : List Float) → Float
@@ -41,22 +37,20 @@ kkt_residual (system n m k c e b) x multipliers noise =
 abbrev pub rounding : Float
 rounding = of_bits binary64 0x3e45_798e_e230_8c3a
 
--- `None` is Overflowed, `Some(residual <= 1e-8 * size)` is Outside or Within
-unfoldable pub within_rounding : Residual → Rounding
+-- `Some(residual <= 1e-8 * size)`, or `None` where either overflowed
+unfoldable pub within_rounding : Residual → Option Bool
 within_rounding r =
-    pick (is_finite r.residual)
-    (pick (is_finite r.size) (pick (le r.residual (fmul rounding r.size)) Within Outside) Overflowed)
-    Overflowed
+    pick (is_finite r.residual) (pick (is_finite r.size) (Some (le r.residual (fmul rounding r.size))) None) None
 
 -- ---- `Scaled::new`: K over its average diagonal entry, and each column of E over its largest entry
 unfoldable pub average : (n : ℕ) (k : List Float) → Float
 average n k = fdiv (trace n k) (fromℕ n)
 
 -- 1 where the average is 0; `SingularCovariance` where it is negative or not finite
-unfoldable pub k_scale : (n : ℕ) (k : List Float) → Scale
+unfoldable pub k_scale : (n : ℕ) (k : List Float) → Option Float
 k_scale n k =
-    pick (eq (average n k) f0) (By f1)
-    (pick (is_finite (average n k)) (pick (lt f0 (average n k)) (By (average n k)) Refused) Refused)
+    pick (eq (average n k) f0) (Some f1)
+    (pick (is_finite (average n k)) (pick (lt f0 (average n k)) (Some (average n k)) None) None)
 
 -- `s if s > 0.0 => s, _ => 1.0`
 unfoldable pub above0_or1 : Float → Float

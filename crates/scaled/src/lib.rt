@@ -2,11 +2,15 @@
 #![tactic(auto)]
 
 ghost use Rattle.std.specs.Prelude.{◌≡◌, ◌≤◌, ◌<◌, ◌*◌, length, take};
-ghost use Rattle.folds.specs.Fold.{over};
 ghost use Rattle.sizes.specs.Sizes as Sizes;
+ghost use Rattle.folds.specs.Fold.{over};
 ghost use Rattle.matrix.specs.Matrix.{columns_divided};
-ghost use Rattle.scaled.specs.System.{Sized, system};
+ghost use Rattle.scaled.specs.Given.{system_of};
 ghost use Rattle.scaled.specs.Scaled as Definition;
+
+pub mod system;
+
+pub use system::System;
 
 // How far x and the multipliers are from solving the system, and the size of the terms that is a difference of.
 #[derive(Drop)]
@@ -15,156 +19,94 @@ pub struct Residual {
     pub size: f64,
 }
 
-// Whether a residual is within rounding of the size of its terms, unless either overflowed.
-#[derive(Drop)]
-pub enum Rounding {
-    Overflowed,
-    Outside,
-    Within,
-}
-
-// K's scale, unless its average diagonal entry is negative or not finite.
-#[derive(Drop)]
-pub enum Scale {
-    By(f64),
-    Refused,
-}
-
 // ‖Kx + Eλ − c‖
-fn stationarity(
-    k: &[f64],
-    c: &[f64],
-    e: &[f64],
-    x: &[f64],
-    multipliers: &[f64],
-    n: usize,
-    m: usize,
-) -> f64
-    requires { (n ≤ Sizes.originals)
-        × (n * n ≤ length k.now)
-        × (n ≤ length c.now)
-        × (n * m ≤ length e.now)
-        × (n ≤ length x.now)
-        × (m ≤ length multipliers.now) }
+fn stationarity(system: &System, x: &[f64], multipliers: &[f64]) -> f64
+    requires { (system.now.n ≤ length x.now) × (system.now.m ≤ length multipliers.now) }
     ensures { result
-        ≡ Definition.stationarity n m k.now c.now e.now x.now multipliers.now }
+        ≡ Definition.stationarity system.now.n system.now.m system.now.k.now system.now.c.now
+        system.now.e.now x.now multipliers.now }
 {
+    let n = system.n;
+    let m = system.m;
     let mut kx = [0.0; sizes::ORIGINALS];
     let mut el = [0.0; sizes::ORIGINALS];
     let mut left = [0.0; sizes::ORIGINALS];
-    matrix::mul_vec(k, n, n, x, &mut kx);
-    matrix::mul_vec(e, n, m, multipliers, &mut el);
+    matrix::mul_vec(system.k, n, n, x, &mut kx);
+    matrix::mul_vec(system.e, n, m, multipliers, &mut el);
     vector::add(&kx[..n], &el[..n], n, &mut left);
-    vector::sub_from(&mut left, n, c);
+    vector::sub_from(&mut left, n, system.c);
     reductions::scaled_norm(&left[..n], n)
 }
 
 // ‖Eᵀx − b‖
-fn feasibility(e: &[f64], b: &[f64], x: &[f64], n: usize, m: usize) -> f64
-    requires { (m ≤ Sizes.columns) × (n * m ≤ length e.now) × (m ≤ length b.now) × (n ≤ length x.now) }
-    ensures { result ≡ Definition.feasibility n m e.now b.now x.now }
+fn feasibility(system: &System, x: &[f64]) -> f64
+    requires { system.now.n ≤ length x.now }
+    ensures { result
+        ≡ Definition.feasibility system.now.n system.now.m system.now.e.now system.now.b.now x.now }
 {
+    let n = system.n;
+    let m = system.m;
     let mut left = [0.0; sizes::COLUMNS];
-    matrix::tr_mul_vec(e, n, m, x, &mut left);
-    vector::sub_from(&mut left, m, b);
+    matrix::tr_mul_vec(system.e, n, m, x, &mut left);
+    vector::sub_from(&mut left, m, system.b);
     reductions::scaled_norm(&left[..m], m)
 }
 
-fn size(
-    k: &[f64],
-    c: &[f64],
-    e: &[f64],
-    b: &[f64],
-    x: &[f64],
-    multipliers: &[f64],
-    n: usize,
-    m: usize,
-    noise: f64,
-) -> f64
-    requires { Sized n m k.now c.now e.now b.now × (n ≤ length x.now) × (m ≤ length multipliers.now) }
-    ensures { result
-        ≡ Definition.size (system n m k.now c.now e.now b.now)
-        x.now multipliers.now noise }
+fn size(system: &System, x: &[f64], multipliers: &[f64], noise: f64) -> f64
+    requires { (system.now.n ≤ length x.now) × (system.now.m ≤ length multipliers.now) }
+    ensures { result ≡ Definition.size (system_of system.now) x.now multipliers.now noise }
 {
+    let n = system.n;
+    let m = system.m;
     let x_norm = reductions::scaled_norm(x, n);
-    let k_terms = reductions::scaled_norm(k, n * n) * x_norm;
-    let e_terms = reductions::scaled_norm(e, n * m)
+    let k_terms = reductions::scaled_norm(system.k, n * n) * x_norm;
+    let e_terms = reductions::scaled_norm(system.e, n * m)
         * (x_norm + reductions::scaled_norm(multipliers, m));
-    k_terms + e_terms + reductions::scaled_norm(c, n) + reductions::scaled_norm(b, m) + noise
+    k_terms
+        + e_terms
+        + reductions::scaled_norm(system.c, n)
+        + reductions::scaled_norm(system.b, m)
+        + noise
 }
 
-pub fn kkt_residual(
-    k: &[f64],
-    c: &[f64],
-    e: &[f64],
-    b: &[f64],
-    x: &[f64],
-    multipliers: &[f64],
-    n: usize,
-    m: usize,
-    noise: f64,
-) -> Residual
-    requires { Sized n m k.now c.now e.now b.now × (n ≤ length x.now) × (m ≤ length multipliers.now) }
-    ensures { result
-        ≡ Definition.kkt_residual (system n m k.now c.now e.now b.now)
-        x.now multipliers.now noise }
+pub fn kkt_residual(system: &System, x: &[f64], multipliers: &[f64], noise: f64) -> Residual
+    requires { (system.now.n ≤ length x.now) × (system.now.m ≤ length multipliers.now) }
+    ensures { result ≡ Definition.kkt_residual (system_of system.now) x.now multipliers.now noise }
 {
-    let residual = stationarity(k, c, e, x, multipliers, n, m) + feasibility(e, b, x, n, m);
-    let size = size(k, c, e, b, x, multipliers, n, m, noise);
-    Residual {
-        residual: residual,
-        size: size,
-    }
+    let residual = stationarity(system, x, multipliers) + feasibility(system, x);
+    let size = size(system, x, multipliers, noise);
+    Residual { residual, size }
 }
 
 // ∞ ≤ ∞ holds, so a check that overflows would pass.
-pub fn within_rounding(r: Residual) -> Rounding
+pub fn within_rounding(r: Residual) -> Option<bool>
     ensures { result ≡ Definition.within_rounding r }
 {
-    if arith::is_finite(r.residual) {
-        if arith::is_finite(r.size) {
-            if r.residual <= 1e-8 * r.size {
-                return Rounding::Within;
-            }
-            return Rounding::Outside;
-        }
+    if !arith::is_finite(r.residual) || !arith::is_finite(r.size) {
+        return None;
     }
-    Rounding::Overflowed
+    Some(r.residual <= 1e-8 * r.size)
 }
 
-// A zero K, as the free block of a linear objective is, keeps scale 1.
-pub fn k_scale(k: &[f64], n: usize) -> Scale
+// K's scale, unless its average diagonal entry is negative or not finite. A zero K, as the free block of a linear objective is, keeps scale 1.
+pub fn k_scale(k: &[f64], n: usize) -> Option<f64>
     requires { n * n ≤ length k.now }
     ensures { result ≡ Definition.k_scale n k.now }
 {
-    let average = matrix::trace(k, n) / arith::from_usize(n);
+    let average = matrix::trace(k, n) / std::num::nearest_usize_to_f64(n);
     if average == 0.0 {
-        return Scale::By(1.0);
+        return Some(1.0);
     }
-    if arith::is_finite(average) {
-        if average > 0.0 {
-            return Scale::By(average);
-        }
+    if arith::is_finite(average) && average > 0.0 {
+        return Some(average);
     }
-    Scale::Refused
+    None
 }
 
 fn above_0_or_1(s: f64) -> f64
     ensures { result ≡ Definition.above0_or1 s }
 {
-    if s > 0.0 {
-        return s;
-    }
-    1.0
-}
-
-fn above_0_or_1_each(y: &mut [f64], n: usize)
-    requires { n ≤ length y.old }
-    ensures { y.new ≡ over (Definition.above0_or1_each n y.old) y.old }
-{
-    for i in 0..n {
-        y[i] = above_0_or_1(y[i]);
-    }
+    if s > 0.0 { s } else { 1.0 }
 }
 
 pub fn column_scales(e: &[f64], n: usize, m: usize) -> [f64; sizes::COLUMNS]
@@ -173,7 +115,7 @@ pub fn column_scales(e: &[f64], n: usize, m: usize) -> [f64; sizes::COLUMNS]
 {
     let mut y = [0.0; sizes::COLUMNS];
     columns::columns_amax(e, n, m, &mut y);
-    above_0_or_1_each(&mut y, m);
+    vector::write_each(&mut y, m, |_, s| above_0_or_1(s));
     y
 }
 

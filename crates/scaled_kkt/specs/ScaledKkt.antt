@@ -1,11 +1,9 @@
 -- qp.rs, `solve_noisy_kkt`: the solve of a system that is scaled. K is n by n, E is n by m; c and x have n elements, b and the multipliers m.
-use Rattle.std.specs.Prelude.{ℕ, ◌-◌, List, take, Float}
-use Rattle.folds.specs.Fold.{pick}
+use Rattle.std.specs.Prelude.{Option, Some, None, ℕ, ◌-◌, List, take, Float}
 use Rattle.constraints.specs.Constraints.{Constraints, constraints, new, smallest_feasible, multipliers}
 use Rattle.scaled.specs.System.{System, system}
 use Rattle.reduced.specs.Reduced.{Reduced, reduced, none, gradient, reduced_gradient, reduced_hessian, range_part, moved}
 use Rattle.solution.specs.Solution.{Kkt, singular, judged}
-use Rattle.scaled_kkt.specs.declared.Point.{Point}
 
 -- ---- the least over x0 + Zv, where the eigenvalues of ZᵀKZ are found
 pub data Least : Type 0 where
@@ -21,8 +19,9 @@ stepped n d k c z x0 none = unknown
 unfoldable pub minimum : (n d : ℕ) (k c z x0 : List Float) → Least
 minimum n d k c z x0 = stepped n d k c z x0 (reduced_hessian n d k z)
 
-unfoldable pub point_of : (n : ℕ) → Point → Least
-point_of n r = pick r.found (least (take n r.x)) unknown
+abbrev pub point_of : (n : ℕ) → Option (List Float) → Least
+point_of n (Some x) = least (take n x)
+point_of n None = unknown
 
 -- ---- the solve
 -- the multipliers at x, and the check of both; `reduced_hessian(k, z)?`

@@ -2,190 +2,116 @@
 // slices are work memory.
 #![tactic(auto)]
 
-ghost use Rattle.std.specs.Prelude.{◌≡◌, ◌≤◌, ◌-◌, ◌*◌, min, length};
+ghost use Rattle.std.specs.Prelude.{◌≡◌, ◌≤◌, ◌*◌, length};
 ghost use Rattle.sizes.specs.Sizes as Sizes;
-ghost use Rattle.vector.specs.Vector.{Below};
-ghost use Rattle.constraints.specs.Constraints.{constraints};
-ghost use Rattle.scaled.specs.System.{Sized, system};
+ghost use Rattle.scaled.specs.Given.{system_of};
 ghost use Rattle.solution.specs.Solution.{solution_of};
 ghost use Rattle.scaled_kkt.specs.ScaledKkt as Definition;
 
-use solution::{KktVerdict, Solution};
+use constraints::Constraints;
+use scaled::System;
+use solution::{KktError, Solution};
 
-// x where ½xᵀKx − cᵀx is least over x0 + Zv, if the eigenvalues of ZᵀKZ were found.
-#[derive(Drop)]
-struct Point {
-    found: bool,
-    x: [f64; sizes::VARIABLES],
-}
-
+// x where ½xᵀKx − cᵀx is least over x0 + Zv, if the eigenvalues of ZᵀKZ are found.
 fn minimum_in(
-    k: &[f64],
-    c: &[f64],
+    system: &System,
     z: &[f64],
     x0: &[f64],
-    n: usize,
     d: usize,
     room: &mut [f64],
     h: &mut [f64],
     vectors: &mut [f64],
-) -> Point
-    requires { (n ≤ Sizes.originals)
-        × (d ≤ n)
-        × (n * n ≤ length k.now)
-        × (n ≤ length c.now)
-        × (n * d ≤ length z.now)
-        × (n ≤ length x0.now)
-        × (n * n ≤ length room.old)
-        × (n * n ≤ length h.old)
-        × (n * n ≤ length vectors.old) }
-    ensures { Definition.point_of n result
-        ≡ Definition.minimum n d k.now c.now z.now x0.now }
+) -> Option<[f64; sizes::VARIABLES]>
+    requires { (d ≤ system.now.n)
+        × (system.now.n * d ≤ length z.now)
+        × (system.now.n ≤ length x0.now)
+        × (system.now.n * system.now.n ≤ length room.old)
+        × (system.now.n * system.now.n ≤ length h.old)
+        × (system.now.n * system.now.n ≤ length vectors.old) }
+    ensures { Definition.point_of system.now.n result
+        ≡ Definition.minimum system.now.n d system.now.k.now system.now.c.now z.now x0.now }
 {
-    let gradient = reduced::reduced_gradient(k, c, z, x0, n, d);
-    let hessian = reduced::reduced_hessian(k, z, n, d, room, h, vectors);
-    let found = hessian.found;
-    let cutoff = hessian.cutoff;
+    let n = system.n;
+    let gradient = reduced::reduced_gradient(system.k, system.c, z, x0, n, d);
+    let hessian = reduced::reduced_hessian(system.k, z, n, d, room, h, vectors)?;
     let values = hessian.values;
+    let cutoff = hessian.cutoff;
     let square = d * d;
     let v = reduced::range_part(&values[..d], &vectors[..square], d, cutoff, &gradient[..d]);
     let x = reduced::moved(x0, z, &v[..d], n, d);
-    Point { found: found, x: x }
+    Some(x)
 }
 
-fn minimum_small(k: &[f64], c: &[f64], z: &[f64], x0: &[f64], n: usize, d: usize) -> Point
-    requires { (n ≤ Sizes.originals)
-        × (d ≤ n)
-        × (n * n ≤ length k.now)
-        × (n ≤ length c.now)
-        × (n * d ≤ length z.now)
-        × (n ≤ length x0.now)
-        × (n ≤ Sizes.few) }
-    ensures { Definition.point_of n result
-        ≡ Definition.minimum n d k.now c.now z.now x0.now }
+// In work memory of SQUARE numbers each.
+fn minimum_within<const SQUARE: usize>(
+    system: &System,
+    z: &[f64],
+    x0: &[f64],
+    d: usize,
+) -> Option<[f64; sizes::VARIABLES]>
+    requires { (d ≤ system.now.n)
+        × (system.now.n * d ≤ length z.now)
+        × (system.now.n ≤ length x0.now)
+        × (system.now.n * system.now.n ≤ SQUARE)
+        × (SQUARE ≤ Sizes.originals * Sizes.originals) }
+    ensures { Definition.point_of system.now.n result
+        ≡ Definition.minimum system.now.n d system.now.k.now system.now.c.now z.now x0.now }
 {
-    let mut room = [0.0; sizes::SMALL];
-    let mut h = [0.0; sizes::SMALL];
-    let mut vectors = [0.0; sizes::SMALL];
-    minimum_in(k, c, z, x0, n, d, &mut room, &mut h, &mut vectors)
+    let mut room = [0.0; SQUARE];
+    let mut h = [0.0; SQUARE];
+    let mut vectors = [0.0; SQUARE];
+    minimum_in(system, z, x0, d, &mut room, &mut h, &mut vectors)
 }
 
-fn minimum_large(k: &[f64], c: &[f64], z: &[f64], x0: &[f64], n: usize, d: usize) -> Point
-    requires { (n ≤ Sizes.originals)
-        × (d ≤ n)
-        × (n * n ≤ length k.now)
-        × (n ≤ length c.now)
-        × (n * d ≤ length z.now)
-        × (n ≤ length x0.now) }
-    ensures { Definition.point_of n result
-        ≡ Definition.minimum n d k.now c.now z.now x0.now }
+// In work memory of its size.
+fn minimum(system: &System, z: &[f64], x0: &[f64], d: usize) -> Option<[f64; sizes::VARIABLES]>
+    requires { (d ≤ system.now.n)
+        × (system.now.n * d ≤ length z.now)
+        × (system.now.n ≤ length x0.now) }
+    ensures { Definition.point_of system.now.n result
+        ≡ Definition.minimum system.now.n d system.now.k.now system.now.c.now z.now x0.now }
 {
-    let mut room = [0.0; sizes::SQUARE];
-    let mut h = [0.0; sizes::SQUARE];
-    let mut vectors = [0.0; sizes::SQUARE];
-    minimum_in(k, c, z, x0, n, d, &mut room, &mut h, &mut vectors)
-}
-
-// The same in work memory of its size.
-fn minimum(k: &[f64], c: &[f64], z: &[f64], x0: &[f64], n: usize, d: usize) -> Point
-    requires { (n ≤ Sizes.originals)
-        × (d ≤ n)
-        × (n * n ≤ length k.now)
-        × (n ≤ length c.now)
-        × (n * d ≤ length z.now)
-        × (n ≤ length x0.now) }
-    ensures { Definition.point_of n result
-        ≡ Definition.minimum n d k.now c.now z.now x0.now }
-{
-    if n <= sizes::FEW {
-        return minimum_small(k, c, z, x0, n, d);
+    if system.n <= sizes::FEW {
+        return minimum_within::<{ sizes::SMALL }>(system, z, x0, d);
     }
-    minimum_large(k, c, z, x0, n, d)
-}
-
-// The solve over what counts of `Constraints`.
-fn solve_over(
-    range: &[f64],
-    null: &[f64],
-    coefficients: &[f64],
-    pivots: &[usize],
-    rank: usize,
-    k: &[f64],
-    c: &[f64],
-    e: &[f64],
-    b: &[f64],
-    n: usize,
-    m: usize,
-    noise: f64,
-) -> Solution
-    requires { Sized n m k.now c.now e.now b.now
-        × (rank ≤ min n m)
-        × (n * rank ≤ length range.now)
-        × (n * (n - rank) ≤ length null.now)
-        × (min n m * m ≤ length coefficients.now)
-        × (rank ≤ length pivots.now)
-        × Below rank pivots.now m }
-    ensures { solution_of n m result
-        ≡ Definition.solve_over (system n m k.now c.now e.now b.now) noise
-        (constraints rank range.now null.now coefficients.now pivots.now) }
-{
-    let x0 = constraints::smallest_feasible(range, coefficients, n, m, b, pivots, rank);
-    let least = minimum(k, c, null, &x0[..n], n, n - rank);
-    let x = least.x;
-    if least.found {
-        let g = reduced::gradient(k, c, &x[..n], n);
-        let multipliers = constraints::multipliers(
-            range,
-            coefficients,
-            n,
-            m,
-            &g[..n],
-            pivots,
-            rank,
-        );
-        return solution::judged(k, c, e, b, x, multipliers, n, m, noise);
-    }
-    solution::refused(KktVerdict::SingularCovariance)
+    minimum_within::<{ sizes::SQUARE }>(system, z, x0, d)
 }
 
 // The solve of a system that is scaled.
 pub fn solve_scaled(
-    k: &[f64],
-    c: &[f64],
-    e: &[f64],
-    b: &[f64],
-    n: usize,
-    m: usize,
+    system: &System,
     noise: f64,
     coefficients: &mut [f64],
     range: &mut [f64],
     null: &mut [f64],
-) -> Solution
-    requires { Sized n m k.now c.now e.now b.now
-        × (n * m ≤ length coefficients.old)
-        × (n * m ≤ length range.old)
-        × (n * n ≤ length null.old) }
-    ensures { solution_of n m result
-        ≡ Definition.solve_scaled (system n m k.now c.now e.now b.now) noise }
+) -> Result<Solution, KktError>
+    requires { (system.now.n * system.now.m ≤ length coefficients.old)
+        × (system.now.n * system.now.m ≤ length range.old)
+        × (system.now.n * system.now.n ≤ length null.old) }
+    ensures { solution_of system.now.n system.now.m result
+        ≡ Definition.solve_scaled (system_of system.now) noise }
 {
-    let pivots = constraints::new(e, n, m, coefficients, range, null);
+    let n = system.n;
+    let m = system.m;
+    let pivots = constraints::new(system.e, n, m, coefficients, range, null);
     let column = pivots.column;
     let rank = pivots.rank;
     let y = n * rank;
     let z = n * (n - rank);
-    let t = pivot_choice::smaller_of(n, m) * m;
-    solve_over(
-        &range[..y],
-        &null[..z],
-        &coefficients[..t],
-        &column[..rank],
+    let t = n.min(m) * m;
+    let of = Constraints {
+        range: &range[..y],
+        coefficients: &coefficients[..t],
+        pivots: &column[..rank],
         rank,
-        k,
-        c,
-        e,
-        b,
         n,
         m,
-        noise,
-    )
+    };
+    let x0 = constraints::smallest_feasible(&of, system.b);
+    let Some(x) = minimum(system, &null[..z], &x0[..n], n - rank) else {
+        return Err(KktError::SingularCovariance);
+    };
+    let g = reduced::gradient(system.k, system.c, &x[..n], n);
+    let multipliers = constraints::multipliers(&of, &g[..n]);
+    solution::judged(system, x, multipliers, noise)
 }

@@ -1,5 +1,5 @@
 -- qp.rs, `descent_ray`: the ray of a problem that is scaled. K is n by n, E is n by m, Z is n by d; c and the direction have n elements.
-use Rattle.std.specs.Prelude.{ℕ, ◌-◌, List, take, Float}
+use Rattle.std.specs.Prelude.{Option, Some, None, ℕ, ◌-◌, List, take, Float}
 use Rattle.std.specs.Float.{binary64}
 use Rattle.std.specs.Float.Ieee.{le, eq, of_bits}
 use Rattle.folds.specs.Fold.{pick}
@@ -8,7 +8,6 @@ use Rattle.reductions.specs.Reductions.{scaled_norm}
 use Rattle.constraints.specs.Constraints.{Constraints, constraints, new}
 use Rattle.reduced.specs.Reduced.{Reduced, reduced, none, reduced_hessian}
 use Rattle.null_part.specs.NullPart.{null_part}
-use Rattle.scaled_ray.specs.declared.Ray.{Ray}
 
 -- `Ok(direction)`, and `Err(CutupError::SingularCovariance)`
 pub data Descent : Type 0 where
@@ -16,8 +15,9 @@ pub data Descent : Type 0 where
   no_descent : Descent
 
 -- what counts of what the code leaves
-unfoldable pub ray_of : (n : ℕ) → Ray → Descent
-ray_of n r = pick r.found (descent (take n r.direction)) no_descent
+abbrev pub ray_of : (n : ℕ) → Option (List Float) → Descent
+ray_of n (Some direction) = descent (take n direction)
+ray_of n None = no_descent
 
 -- ---- `if length <= 1e-12 * norm(c) || length == 0.0`
 -- 1e-12

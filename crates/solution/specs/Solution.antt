@@ -1,14 +1,12 @@
 -- qp.rs, the answers of `solve_noisy_kkt` and `solve_kkt`, and what is done with them.
-use Rattle.std.specs.Prelude.{ℕ, List, Float, take}
+use Rattle.std.specs.Prelude.{ℕ, true, false, Bool, Option, Some, None, Result, Ok, Err, List, Float, take}
 use Rattle.folds.specs.Fold.{tab, pick}
 use Rattle.arith.specs.Float.{fmul, fdiv, at}
 use Rattle.reductions.specs.Reductions.{all_finite}
 use Rattle.scaled.specs.System.{System, system}
 use Rattle.scaled.specs.Scaled.{kkt_residual, within_rounding}
-use Rattle.scaled.specs.declared.Rounding.{Rounding}
-use Rattle.scaled.specs.declared.Rounding.TheVariants.{Overflowed, Outside, Within}
-use Rattle.solution.specs.declared.KktVerdict.{KktVerdict}
-use Rattle.solution.specs.declared.KktVerdict.TheVariants.{Solved, NoOptimum, NonFiniteCovariance, SingularCovariance}
+use Rattle.solution.specs.declared.KktError.{KktError}
+use Rattle.solution.specs.declared.KktError.TheVariants.{NoOptimum, NonFiniteCovariance, SingularCovariance}
 use Rattle.solution.specs.declared.Solution.{Solution}
 
 -- `Ok(Some((x, multipliers)))`, `Ok(None)`, and what is refused
@@ -18,20 +16,26 @@ pub data Kkt : Type 0 where
   non_finite : Kkt
   singular : Kkt
 
-unfoldable pub answer : KktVerdict → (x multipliers : List Float) → Kkt
-answer Solved x multipliers = optimum x multipliers
-answer NoOptimum x multipliers = no_optimum
-answer NonFiniteCovariance x multipliers = non_finite
-answer SingularCovariance x multipliers = singular
+abbrev pub refusal : KktError → Kkt
+refusal NoOptimum = no_optimum
+refusal NonFiniteCovariance = non_finite
+refusal SingularCovariance = singular
 
-unfoldable pub solution_of : (n m : ℕ) → Solution → Kkt
-solution_of n m r = answer r.verdict (take n r.x) (take m r.multipliers)
+-- what the code answers, with x and the multipliers as lists of their own
+abbrev pub answer : Result (Unit {0}) KktError → (x multipliers : List Float) → Kkt
+answer (Ok _) x multipliers = optimum x multipliers
+answer (Err e) x multipliers = refusal e
+
+-- and with the solution
+abbrev pub solution_of : (n m : ℕ) → Result Solution KktError → Kkt
+solution_of n m (Ok s) = optimum (take n s.x) (take m s.multipliers)
+solution_of n m (Err e) = refusal e
 
 -- the system is solved to within rounding and x is finite, `match within_rounding(residual)`
-unfoldable pub judge : Rounding → (n : ℕ) (x multipliers : List Float) → Kkt
-judge Overflowed n x multipliers = singular
-judge Outside n x multipliers = no_optimum
-judge Within n x multipliers = pick (all_finite n x) (optimum x multipliers) singular
+unfoldable pub judge : Option Bool → (n : ℕ) (x multipliers : List Float) → Kkt
+judge None n x multipliers = singular
+judge (Some false) n x multipliers = no_optimum
+judge (Some true) n x multipliers = pick (all_finite n x) (optimum x multipliers) singular
 
 unfoldable pub judged : System → (x multipliers : List Float) (noise : Float) → Kkt
 judged (system n m k c e b) x multipliers noise =

@@ -1,19 +1,15 @@
-use Rattle.folds.specs.Kit.{◌∙◌, pick}
-use Rattle.solution.specs.Laws.{solution_non_finite, solution_singular}
+use Rattle.folds.specs.Kit.{pick}
 use Rattle.noisy_kkt.specs.NoisyKkt.{with_scale, solve_noisy_kkt}
 use Rattle.noisy_kkt.proofs.solve_noisy_kkt.Goals as goal
 
-pub returns-in-By : goal.returns-in-By
-unfolding solve_noisy_kkt with_scale pick
-returns-in-By c =
-    rw (← c.finite.ensures, c.if-finite.true, ← c.k_scale.ensures, c.in-By.is) c.solve_by.ensures
+pub returns-then-not-finite : goal.returns-then-not-finite
+unfolding solve_noisy_kkt pick
+returns-then-not-finite c = rw (← c.finite.ensures, c.if-not-finite.true)
 
-pub returns-in-Refused : goal.returns-in-Refused
+pub returns-in_default : goal.returns-in_default
 unfolding solve_noisy_kkt with_scale pick
-returns-in-Refused c =
-    solution_singular _ _ _ c.refused.ensures
-    ∙ rw (← c.finite.ensures, c.if-finite.true, ← c.k_scale.ensures, c.in-Refused.is)
+returns-in_default c = rw (← c.finite.ensures, c.if-not-finite.false, ← c.k_scale.ensures, c.in_default.is)
 
 pub returns : goal.returns
-unfolding solve_noisy_kkt pick
-returns c = solution_non_finite _ _ _ c.refused-2.ensures ∙ rw (← c.finite.ensures, c.if-finite.false)
+unfolding solve_noisy_kkt with_scale pick
+returns c = rw (← c.finite.ensures, c.if-not-finite.false, ← c.k_scale.ensures, c.in-Some.is) c.solve_by.ensures

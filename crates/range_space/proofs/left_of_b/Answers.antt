@@ -1,14 +1,9 @@
-use Rattle.folds.specs.Kit.{sym, ◌∙◌, rules}
-use lib.Seq.{length-take-le}
+use Rattle.folds.specs.Kit.{◌∙◌}
 use Rattle.folds.specs.Tab.{taken-over}
 use Rattle.vector.specs.Laws.{length-sub}
 use Rattle.matrix.specs.Laws.{length-tr_mul_vec}
 use Rattle.range_space.specs.Factored.{left_of_b}
 use Rattle.range_space.proofs.left_of_b.Goals as goal
-use Rattle.range_space.proofs.left_of_b.Goals.{After-tr_mul_vec}
-
-pub slice_bounds-sub-end : goal.slice_bounds-sub-end
-slice_bounds-sub-end c = sym (length-take-le _ _ (search rules))
 
 pub returns : goal.returns
 unfolding left_of_b

@@ -8,24 +8,24 @@ use Rattle.range_space.proofs.solve_in.Goals as goal
 use Rattle.range_space.proofs.solve_in.Goals.{After-divide_columns}
 
 -- W with its columns at unit length
-unit : (c : After-divide_columns) →
-    c.divide_columns.new.a ≡ columns_divided c.args.n c.args.m c.whiten.new.w (take c.args.m c.lengths-by.result)
-unit c = over-whole _ _ (length-columns_divided _ _ _ _) (omega (arith, c.requires.3)) c.divide_columns.ensures
+unit : (c : After-divide_columns) → let s = c.args.system.now in
+    c.divide_columns.new.a ≡ columns_divided s.n s.m c.whiten.new.w (take s.m c.lengths-by.result)
+unit c = over-whole _ _ (length-columns_divided _ _ _ _) (omega (arith, c.requires.2)) c.divide_columns.ensures
 
-pub returns-then-factor_gram : goal.returns-then-factor_gram
-unfolding solve_factored with_w with_gram
-returns-then-factor_gram c =
-    let u = (goal.at.returns-then-factor_gram c).After-divide_columns in
+pub returns-then-not-factor_gram : goal.returns-then-not-factor_gram
+unfolding found_of pick solve_factored with_w with_gram
+returns-then-not-factor_gram c =
+    let u = (goal.at.returns-then-not-factor_gram c).After-divide_columns in
     rw (
       ← c.whiten.ensures,
       ← c.lengths-by.ensures,
       ← unit u,
       ← c.factor_gram.ensures,
-      c.if-factor_gram.true,
-    ) c.solve_over.ensures
+      c.if-not-factor_gram.true,
+    )
 
 pub returns : goal.returns
-unfolding found_of pick solve_factored with_w with_gram
+unfolding solve_factored with_w with_gram
 returns c =
     let u = (goal.at.returns c).After-divide_columns in
     rw (
@@ -33,5 +33,5 @@ returns c =
       ← c.lengths-by.ensures,
       ← unit u,
       ← c.factor_gram.ensures,
-      c.if-factor_gram.false,
-    )
+      c.if-not-factor_gram.false,
+    ) c.solve_over.ensures

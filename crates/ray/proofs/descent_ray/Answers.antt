@@ -1,12 +1,10 @@
-use Rattle.folds.specs.Kit.{◌∙◌}
-use Rattle.scaled_ray.specs.Laws.{ray_none}
 use Rattle.ray.specs.Ray.{with_scale, descent_ray}
 use Rattle.ray.proofs.descent_ray.Goals as goal
 
-pub returns-in-By : goal.returns-in-By
+pub returns-in_err-scale : goal.returns-in_err-scale
 unfolding descent_ray with_scale
-returns-in-By c = rw (← c.k_scale.ensures, c.in-By.is) c.ray_by.ensures
+returns-in_err-scale c = rw (c.from_residual.ensures, ← c.in_err-scale.ensures)
 
-pub returns-in-Refused : goal.returns-in-Refused
+pub returns : goal.returns
 unfolding descent_ray with_scale
-returns-in-Refused c = ray_none _ _ c.refused.ensures ∙ rw (← c.k_scale.ensures, c.in-Refused.is)
+returns c = rw (← c.in_ok-scale.ensures) c.ray_by.ensures

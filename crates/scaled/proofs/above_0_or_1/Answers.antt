@@ -6,6 +6,6 @@ pub returns-then-s : goal.returns-then-s
 unfolding above0_or1 pick
 returns-then-s c = rw c.if-s.true
 
-pub returns : goal.returns
+pub returns-else-s : goal.returns-else-s
 unfolding above0_or1 pick
-returns c = rw c.if-s.false
+returns-else-s c = rw c.if-s.false
