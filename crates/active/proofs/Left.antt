@@ -1,4 +1,5 @@
 -- The loop over the passes: what is left of it after `made` of them.
+use Rattle.std.specs.Prelude.{Result, Err}
 use mathlib.Core.Path.{◌≡◌, ◌∙◌}
 use mathlib.Core.Bool.{Bool, true}
 use mathlib.Core.List.{List}
@@ -14,10 +15,12 @@ use Rattle.pass.specs.declared.Made.{Made}
 use Rattle.pass.specs.State.{State, state, made_of, made_beside}
 use Rattle.pass.specs.Pass.{pass}
 use Rattle.minimum.specs.declared.Minimum as Declared
-use Rattle.minimum.specs.declared.SolveVerdict.TheVariants.{NotConverged}
+use Rattle.iterate.specs.declared.Ending.TheVariants.{More}
+use Rattle.iterate.specs.declared.SolveError.{SolveError}
+use Rattle.iterate.specs.declared.SolveError.TheVariants.{NotConverged}
 use Rattle.minimum.specs.Minimized.{Minimized, minimized_of}
-use Rattle.minimum.specs.Counted.{goes_on, Ends, budget}
-use Rattle.minimum.specs.Laws.{minimized_of-not_converged}
+use Rattle.minimum.specs.Counted.{Ends, budget}
+use Rattle.minimum.specs.Laws.{minimized_of-err}
 use Rattle.active.specs.Active.{step, spent, passes}
 use Rattle.active.specs.Laws.{counted-more, counted-done}
 
@@ -35,18 +38,18 @@ module _ (originals n m : ℕ) (q c e b : List Float) (segments : List Segments)
   all-left i l e = rw e (run-all _ _ (budget n) (state i new l))
 
   module _ (s : State) (made : ℕ) {r : Minimized} (left : Left p segments fixed q_amax linear made s ≡ r) where
-    pub all-spent : (a : Declared.Minimum) → budget n ≤ made → a.verdict ≡ NotConverged → minimized_of n m a ≡ r
+    pub all-spent : budget n ≤ made → minimized_of n m (Err NotConverged) ≡ r
     unfolding Left
-    all-spent a h v = minimized_of-not_converged n m a v ∙ run-spent _ _ (budget n) made s h ∙ left
+    all-spent h = minimized_of-err n m NotConverged ∙ run-spent _ _ (budget n) made s h ∙ left
 
     -- after a pass
     module _ (t : Made) (l : List Float) (under : made < budget n) (gave : made_of n m t l ≡ pass p segments fixed q_amax linear s) where
-      pub again : goes_on t.passed.ending ≡ true →
+      pub again : t.passed.ending ≡ More →
           Left p segments fixed q_amax linear (made + 1) (state t.passed.iterate (kept_of t.factoring) l) ≡ r
       unfolding Left step
       again g = run-more _ _ (budget n) made s _ under (rw (← gave, made_beside) (counted-more t.passed (made + 1) n m _ l g)) ∙ left
 
-      pub ended : (a : Declared.Minimum) → Ends t.passed made a → minimized_of n m a ≡ r
+      pub ended : (a : Result Declared.Minimum SolveError) → Ends t.passed made a → minimized_of n m a ≡ r
       unfolding Left step
       ended a f = run-done _ _ (budget n) made s under (rw (← gave, made_beside) (counted-done (made + 1) _ l _ (f n m))) ∙ left
 

@@ -7,7 +7,8 @@ use Rattle.iterate.specs.Problem.{Problem, problem}
 use Rattle.iterate.specs.declared.Iterate.{Iterate}
 use Rattle.pass.specs.State.{State, state}
 use Rattle.pass.specs.Pass.{pass}
-use Rattle.minimum.specs.Minimized.{Minimized, not_converged}
+use Rattle.iterate.specs.declared.SolveError.TheVariants.{NotConverged}
+use Rattle.minimum.specs.Minimized.{Minimized, refused}
 use Rattle.minimum.specs.Counted.{counted, budget}
 
 -- a pass, as one of the run's
@@ -17,7 +18,7 @@ step p segments fixed q_amax linear made s = counted (made + 1) (pass p segments
 -- ---- the run: `for _ in 0..100 + 20 * n`
 -- `Err(CutupError::NotConverged)`
 abbrev pub spent : (made : ℕ) (s : State) → Minimized
-spent made s = not_converged
+spent made s = refused NotConverged
 
 -- with no factor yet, which is to stand over the start of l
 unfoldable pub passes : Problem → (segments : List Segments) (fixed : List Bool) (q_amax linear : Float) (i : Iterate) (l : List Float) → Minimized

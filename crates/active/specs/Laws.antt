@@ -10,18 +10,19 @@ use Rattle.iterate.specs.Problem.{Problem, problem}
 use Rattle.iterate.specs.Iterate.{Result, passed_of}
 use Rattle.iterate.specs.Laws.{passed-more}
 use Rattle.iterate.specs.declared.Iterate.{Iterate}
+use Rattle.iterate.specs.declared.Ending.TheVariants.{More}
 use Rattle.iterate.specs.declared.Passed.{Passed}
 use Rattle.pass.specs.State.{State, state, beside, beside-more, beside-done}
 use Rattle.pass.specs.Pass.{pass}
 use Rattle.minimum.specs.Minimized.{Minimized}
-use Rattle.minimum.specs.Counted.{counted, goes_on, budget}
-use Rattle.minimum.specs.Laws.{goes-more, counted-goes, counted-ends, Within, counted-within}
+use Rattle.minimum.specs.Counted.{counted, budget}
+use Rattle.minimum.specs.Laws.{counted-goes, counted-ends, Within, counted-within}
 use Rattle.active.specs.Active.{step, spent, passes}
 
 -- ---- a pass goes on, or ends in an answer, whatever it leaves of the factor
-pub counted-more : (p : Passed) (passes n m : ℕ) (f : Kept) (l : List Float) → goes_on p.ending ≡ true →
+pub counted-more : (p : Passed) (passes n m : ℕ) (f : Kept) (l : List Float) → p.ending ≡ More →
     counted passes (beside f l (passed_of n m p)) ≡ more (state p.iterate f l)
-counted-more p passes n m f l h = rw (passed-more n m p (goes-more p.ending h), beside-more, counted-goes)
+counted-more p passes n m f l h = rw (passed-more n m p h, beside-more, counted-goes)
 
 pub counted-done : (passes : ℕ) (f : Kept) (l : List Float) {a : Minimized} (p : Pass Iterate Result) →
     counted passes p ≡ done a → counted passes (beside f l p) ≡ done a

@@ -10,8 +10,8 @@ ghost use Rattle.minimum.specs.Minimized.{minimized_of};
 ghost use Rattle.active.specs.Active as Definition;
 
 use factoring::Factoring;
-use iterate::{Counts, Iterate, Magnitudes};
-use minimum::{Minimum, SolveVerdict};
+use iterate::{Counts, Iterate, Magnitudes, SolveError};
+use minimum::Minimum;
 use segments::Segments;
 
 // The passes from `iterate` on, until one of them ends or the budget is spent. The slices from room on are work memory, but l, which holds the
@@ -31,7 +31,7 @@ pub fn passes(
     e_free: &mut [f64],
     gram: &mut [f64],
     l: &mut [f64],
-) -> Minimum
+) -> Result<Minimum, SolveError>
     requires { Shaped counts.originals counts.n counts.m q.now c.now e.now b.now
         × AllCut counts.n segments
         × Consistent counts.n segments iterate
@@ -50,13 +50,11 @@ pub fn passes(
             gram, l,
         );
         let passed = step.passed;
-        let ending = passed.ending;
-        if minimum::goes_on(ending) {
-            at = passed.iterate;
-            factoring = step.factoring;
-        } else {
-            return minimum::answered(passed, made);
+        if let Some(answer) = minimum::answered(&passed, made) {
+            return answer;
         }
+        at = passed.iterate;
+        factoring = step.factoring;
     }
-    minimum::refused(SolveVerdict::NotConverged)
+    Err(SolveError::NotConverged)
 }

@@ -7,7 +7,8 @@ use Rattle.std.proofs.Math.ListN.{length}
 use Rattle.block.specs.Block.{Block}
 use Rattle.block.specs.Ranges.{Ranged}
 use Rattle.format.specs.declared.Block as Held
-use Rattle.minimum.specs.Capped.{Capped, optimal, unbounded}
+use Rattle.iterate.specs.declared.SolveError.TheVariants.{Unbounded}
+use Rattle.minimum.specs.Capped.{Capped, optimal, refused}
 use Rattle.outputs.specs.Capped.{CappedAnswer, engine, Written, optimal-written}
 use Rattle.cap.specs.Capped.{solve_turnover_capped}
 use Rattle.cap.specs.Laws.{optimal-sized, never_unbounded, engine-answer}
@@ -74,7 +75,7 @@ module _ (b : Block) where
   unfolding solve_block quadratic_of
   engine_always R = (_, engine-answer _ _ _ _ _ _ _ _ _ _ _ _ _ _ _ _ _ _ (block-shaped R) (block-numbers R))
 
-  pub solved-bounded : solve_block b ≡ engine unbounded → ⊥
+  pub solved-bounded : solve_block b ≡ engine (refused Unbounded) → ⊥
   unfolding solve_block
   solved-bounded e = never_unbounded _ _ _ _ e
 

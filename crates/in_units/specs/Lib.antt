@@ -1,3 +1,2 @@
 pub mod InUnits
-pub mod Room
 pub mod Laws

@@ -11,7 +11,7 @@ ghost use Rattle.iterate.specs.Problem.{problem, Shaped, Room};
 ghost use Rattle.minimum.specs.Minimized.{minimized_of};
 ghost use Rattle.in_units.specs.InUnits as Definition;
 
-use iterate::Counts;
+use iterate::{Counts, SolveError};
 use minimum::Minimum;
 use segments::Segments;
 
@@ -39,7 +39,7 @@ fn solve_piecewise_in_units(
     e_free: &mut [f64],
     gram: &mut [f64],
     l: &mut [f64],
-) -> Minimum
+) -> Result<Minimum, SolveError>
     requires { Shaped counts.originals counts.n counts.m q.now c.now e.now b.now
         × AllCut counts.n segments
         × (counts.n ≤ length start.now)
@@ -72,8 +72,8 @@ fn solve_piecewise_in_units(
     )
 }
 
-// `solve_piecewise_in_units` in little memory: what a call clears would otherwise cost more than a small solve.
-fn engine_small(
+// `solve_piecewise_in_units` in work memory of ROWS, SQUARE, TALL and GRAM numbers.
+fn engine_within<const ROWS: usize, const SQUARE: usize, const TALL: usize, const GRAM: usize>(
     q: &[f64],
     c: &[f64],
     e: &[f64],
@@ -83,69 +83,28 @@ fn engine_small(
     n: usize,
     m: usize,
     r: usize,
-) -> Minimum
+) -> Result<Minimum, SolveError>
     requires { Shaped n (n + r) (m + r) q.now c.now e.now b.now
         × AllCut (n + r) segments
         × (n + r ≤ length start.now)
-        × (m ≤ Sizes.equalities)
-        × (r ≤ Sizes.few)
-        × (n ≤ Sizes.few) }
-    ensures { minimized_of (n + r) (m + r) result
-        ≡ Definition.solve_piecewise_in_units (problem n (n + r) (m + r) q.now c.now e.now b.now) segments
-        start.now }
-{
-    let mut room = [0.0; SMALL_ROWS];
-    let mut q_free = [0.0; sizes::SMALL];
-    let mut e_free = [0.0; SMALL_ROWS];
-    let mut gram = [0.0; SMALL_GRAM];
-    let mut l = [0.0; sizes::SMALL];
-    let square = n * n;
-    let counts = Counts {
-        originals: n,
-        n: n + r,
-        m: m + r,
-    };
-    solve_piecewise_in_units(
-        q,
-        c,
-        e,
-        b,
-        counts,
-        segments,
-        start,
-        &mut room,
-        &mut q_free,
-        &mut e_free,
-        &mut gram,
-        &mut l[..square],
-    )
-}
-
-fn engine_large(
-    q: &[f64],
-    c: &[f64],
-    e: &[f64],
-    b: &[f64],
-    segments: [Segments; sizes::VARIABLES],
-    start: &[f64],
-    n: usize,
-    m: usize,
-    r: usize,
-) -> Minimum
-    requires { Shaped n (n + r) (m + r) q.now c.now e.now b.now
-        × AllCut (n + r) segments
-        × (n + r ≤ length start.now)
-        × (m ≤ Sizes.equalities)
-        × (r ≤ Sizes.rows) }
+        × (n * (n + r) ≤ ROWS)
+        × (n * (m + r) ≤ ROWS)
+        × (n * n ≤ SQUARE)
+        × (n * (m + r) ≤ TALL)
+        × ((m + r) * (m + r) ≤ GRAM)
+        × (ROWS ≤ Sizes.originals * Sizes.variables)
+        × (SQUARE ≤ Sizes.originals * Sizes.originals)
+        × (TALL ≤ Sizes.originals * Sizes.columns)
+        × (GRAM ≤ Sizes.columns * Sizes.columns) }
     ensures { minimized_of (n + r) (m + r) result
         ≡ Definition.solve_piecewise_in_units (problem n (n + r) (m + r) q.now c.now e.now b.now) segments
         start.now }
 {
     let mut room = [0.0; ROWS];
-    let mut q_free = [0.0; sizes::SQUARE];
-    let mut e_free = [0.0; sizes::TALL];
+    let mut q_free = [0.0; SQUARE];
+    let mut e_free = [0.0; TALL];
     let mut gram = [0.0; GRAM];
-    let mut l = [0.0; sizes::SQUARE];
+    let mut l = [0.0; SQUARE];
     let square = n * n;
     let counts = Counts {
         originals: n,
@@ -168,7 +127,7 @@ fn engine_large(
     )
 }
 
-// The same in work memory of its size.
+// The same in work memory of its size: what a call clears would otherwise cost more than a small solve.
 pub fn engine_sized(
     q: &[f64],
     c: &[f64],
@@ -179,7 +138,7 @@ pub fn engine_sized(
     n: usize,
     m: usize,
     r: usize,
-) -> Minimum
+) -> Result<Minimum, SolveError>
     requires { Shaped n (n + r) (m + r) q.now c.now e.now b.now
         × AllCut (n + r) segments
         × (n + r ≤ length start.now)
@@ -189,10 +148,12 @@ pub fn engine_sized(
         ≡ Definition.solve_piecewise_in_units (problem n (n + r) (m + r) q.now c.now e.now b.now) segments
         start.now }
 {
-    if n <= sizes::FEW {
-        if r <= sizes::FEW {
-            return engine_small(q, c, e, b, segments, start, n, m, r);
-        }
+    if n <= sizes::FEW && r <= sizes::FEW {
+        return engine_within::<{ SMALL_ROWS }, { sizes::SMALL }, { SMALL_ROWS }, { SMALL_GRAM }>(
+            q, c, e, b, segments, start, n, m, r,
+        );
     }
-    engine_large(q, c, e, b, segments, start, n, m, r)
+    engine_within::<{ ROWS }, { sizes::SQUARE }, { sizes::TALL }, { GRAM }>(
+        q, c, e, b, segments, start, n, m, r,
+    )
 }

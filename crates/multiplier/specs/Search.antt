@@ -4,6 +4,7 @@ use Rattle.folds.specs.Fold.{pick}
 use Rattle.folds.specs.Run.{Pass, done}
 use Rattle.folds.specs.Until.{until}
 use Rattle.vector.specs.Vector.{add_scalar}
+use Rattle.iterate.specs.declared.SolveError.TheVariants.{NotConverged}
 use Rattle.minimum.specs.Minimized as Engine
 use Rattle.quadratic.specs.Quadratic.{quadratic}
 use Rattle.slack_solve.specs.SlackSolve as SlackSolve
@@ -11,7 +12,7 @@ use Rattle.turnover.specs.Turnover.{reaches}
 use Rattle.bracket.specs.declared.Bracket.{Bracket}
 use Rattle.bracket.specs.Bracket.{cut, closed}
 use Rattle.bracket.specs.Ends.{ups, width}
-use Rattle.search_step.specs.Step.{Ended, found, non_finite, singular, unbounded, not_converged, double_by, cut_by}
+use Rattle.search_step.specs.Step.{Ended, found, refused, double_by, cut_by}
 
 -- what the closure `solve` captures: `q`, `c`, `e`, `b`, `bounds` and `kinks`
 pub data Problem : Type 0 where
@@ -32,7 +33,7 @@ unfoldable pub reached_or : (spent : Ended) → Problem → (limit : Float) → 
 reached_or spent p limit b = until (double_step p limit) spent ups b
 
 unfoldable pub reached : Problem → (limit : Float) → Bracket → Ended
-reached p limit b = reached_or not_converged p limit b
+reached p limit b = reached_or (refused NotConverged) p limit b
 
 -- ---- the cuts
 unfoldable pub cut_at : Problem → (limit : Float) → Bracket → Pass Bracket Ended
@@ -53,15 +54,12 @@ unfoldable pub narrowed_or : (spent : Ended) → Problem → (limit : Float) →
 narrowed_or spent p limit b = until (cut_step p limit) spent width b
 
 unfoldable pub narrowed : Problem → (limit : Float) → Bracket → Ended
-narrowed p limit b = narrowed_or not_converged p limit b
+narrowed p limit b = narrowed_or (refused NotConverged) p limit b
 
 -- ---- the one after the other
 unfoldable pub then_narrowed : Problem → (limit : Float) → Ended → Ended
 then_narrowed p limit (found b) = narrowed p limit b
-then_narrowed p limit non_finite = non_finite
-then_narrowed p limit singular = singular
-then_narrowed p limit unbounded = unbounded
-then_narrowed p limit not_converged = not_converged
+then_narrowed p limit (refused e) = refused e
 
 unfoldable pub reach_and_narrow : Problem → (limit : Float) → Bracket → Ended
 reach_and_narrow p limit b = then_narrowed p limit (reached p limit b)

@@ -12,7 +12,8 @@ ghost use Rattle.multiplier.specs.Search.{problem};
 ghost use Rattle.multiplier.specs.Search as Definition;
 
 use bracket::Bracket;
-use minimum::{Minimum, SolveVerdict};
+use iterate::SolveError;
+use minimum::Minimum;
 use search_step::Stepped;
 
 // The optimum with every slope raised by `extra`, from a warm start.
@@ -33,7 +34,7 @@ pub fn solve_raised(
     n: usize,
     m: usize,
     r: usize,
-) -> Minimum
+) -> Result<Minimum, SolveError>
     requires { Ready n m r q.now c.now e.now b.now lower.now upper.now a.now row_lower.now
         row_upper.now at.now slopes.now }
     ensures { minimized_of n (m + r) result
@@ -80,7 +81,7 @@ fn double_step(
     n: usize,
     m: usize,
     r: usize,
-) -> Stepped
+) -> Result<Stepped, SolveError>
     requires { Ready n m r q.now c.now e.now b.now lower.now upper.now a.now row_lower.now
         row_upper.now at.now slopes.now }
     ensures { stepped_of n (m + r) result
@@ -89,7 +90,7 @@ fn double_step(
         limit (bracket_of n (m + r) bracket) }
 {
     let warm = bracket.warm;
-    let s = solve_raised(
+    let solved = solve_raised(
         q,
         c,
         e,
@@ -107,10 +108,7 @@ fn double_step(
         m,
         r,
     );
-    let verdict = s.verdict;
-    let x = s.x;
-    let multipliers = s.multipliers;
-    search_step::double_by(bracket, verdict, x, multipliers, s.passes, at, limit, n)
+    search_step::double_by(bracket, solved, at, limit, n)
 }
 
 // Doubles until `high` is within the limit.
@@ -131,7 +129,7 @@ fn reach(
     n: usize,
     m: usize,
     r: usize,
-) -> Stepped
+) -> Result<Bracket, SolveError>
     requires { Ready n m r q.now c.now e.now b.now lower.now upper.now a.now row_lower.now
         row_upper.now at.now slopes.now
         × Rising bracket }
@@ -142,13 +140,12 @@ fn reach(
 {
     let mut t = bracket;
     loop {
-        let s = double_step(
+        let step = double_step(
             t, q, c, e, b, lower, upper, a, row_lower, row_upper, at, slopes, limit, n, m, r,
-        );
-        if s.more {
-            t = s.bracket;
-        } else {
-            return s;
+        )?;
+        match step {
+            Stepped::More(next) => t = next,
+            Stepped::Found(found) => return Ok(found),
         }
     }
 }
@@ -171,7 +168,7 @@ fn cut_at(
     n: usize,
     m: usize,
     r: usize,
-) -> Stepped
+) -> Result<Stepped, SolveError>
     requires { Ready n m r q.now c.now e.now b.now lower.now upper.now a.now row_lower.now
         row_upper.now at.now slopes.now }
     ensures { stepped_of n (m + r) result
@@ -180,7 +177,7 @@ fn cut_at(
         limit (bracket_of n (m + r) bracket) }
 {
     let best = bracket.best;
-    let s = solve_raised(
+    let solved = solve_raised(
         q,
         c,
         e,
@@ -198,10 +195,7 @@ fn cut_at(
         m,
         r,
     );
-    let verdict = s.verdict;
-    let x = s.x;
-    let multipliers = s.multipliers;
-    search_step::cut_by(bracket, verdict, x, multipliers, s.passes, at, limit, n)
+    search_step::cut_by(bracket, solved, at, limit, n)
 }
 
 fn cut_step(
@@ -221,7 +215,7 @@ fn cut_step(
     n: usize,
     m: usize,
     r: usize,
-) -> Stepped
+) -> Result<Stepped, SolveError>
     requires { Ready n m r q.now c.now e.now b.now lower.now upper.now a.now row_lower.now
         row_upper.now at.now slopes.now }
     ensures { stepped_of n (m + r) result
@@ -231,11 +225,11 @@ fn cut_step(
 {
     let best = bracket.best;
     if turnover::reaches(bracket.high_value, limit, &best[..n], n) {
-        return search_step::ended(SolveVerdict::Optimal, bracket);
+        return Ok(Stepped::Found(bracket));
     }
     let next = bracket.cut(limit);
     if next.closed() {
-        return search_step::ended(SolveVerdict::Optimal, bracket);
+        return Ok(Stepped::Found(bracket));
     }
     cut_at(
         next, q, c, e, b, lower, upper, a, row_lower, row_upper, at, slopes, limit, n, m, r,
@@ -260,7 +254,7 @@ fn narrow(
     n: usize,
     m: usize,
     r: usize,
-) -> Stepped
+) -> Result<Bracket, SolveError>
     requires { Ready n m r q.now c.now e.now b.now lower.now upper.now a.now row_lower.now
         row_upper.now at.now slopes.now
         × Rising bracket }
@@ -271,13 +265,12 @@ fn narrow(
 {
     let mut t = bracket;
     loop {
-        let s = cut_step(
+        let step = cut_step(
             t, q, c, e, b, lower, upper, a, row_lower, row_upper, at, slopes, limit, n, m, r,
-        );
-        if s.more {
-            t = s.bracket;
-        } else {
-            return s;
+        )?;
+        match step {
+            Stepped::More(next) => t = next,
+            Stepped::Found(found) => return Ok(found),
         }
     }
 }
@@ -300,7 +293,7 @@ pub fn reach_and_narrow(
     n: usize,
     m: usize,
     r: usize,
-) -> Stepped
+) -> Result<Bracket, SolveError>
     requires { Ready n m r q.now c.now e.now b.now lower.now upper.now a.now row_lower.now
         row_upper.now at.now slopes.now
         × Rising bracket }
@@ -309,20 +302,10 @@ pub fn reach_and_narrow(
         upper.now a.now row_lower.now row_upper.now at.now slopes.now)
         limit (bracket_of n (m + r) bracket) }
 {
-    let s = reach(
+    let found = reach(
         bracket, q, c, e, b, lower, upper, a, row_lower, row_upper, at, slopes, limit, n, m, r,
-    );
-    let verdict = s.verdict;
-    match verdict {
-        SolveVerdict::Optimal => {
-            let t = s.bracket;
-            narrow(
-                t, q, c, e, b, lower, upper, a, row_lower, row_upper, at, slopes, limit, n, m, r,
-            )
-        }
-        SolveVerdict::NonFiniteCovariance => s,
-        SolveVerdict::SingularCovariance => s,
-        SolveVerdict::Unbounded => s,
-        SolveVerdict::NotConverged => s,
-    }
+    )?;
+    narrow(
+        found, q, c, e, b, lower, upper, a, row_lower, row_upper, at, slopes, limit, n, m, r,
+    )
 }

@@ -4,11 +4,12 @@
 
 ghost use Rattle.std.specs.Prelude.{◌≡◌, ◌≤◌, ◌+◌, ◌*◌, length, take};
 ghost use Rattle.sizes.specs.Sizes as Sizes;
-ghost use Rattle.minimum.specs.Minimized.{minimized, minimized_of};
+ghost use Rattle.minimum.specs.Minimized.{minimized_of};
 ghost use Rattle.original_units.specs.Original as Definition;
 ghost use Rattle.original_units.specs.Holds.{Restores};
 
-use minimum::{Minimum, SolveVerdict};
+use iterate::SolveError;
+use minimum::Minimum;
 
 // Whether x meets the constraints and the rows.
 fn feasible(
@@ -43,9 +44,7 @@ fn feasible(
 
 // A point in `Units`, restored, with its multipliers, if it meets the constraints and the rows there.
 fn restored(
-    u: [f64; sizes::VARIABLES],
-    lambda: [f64; sizes::COLUMNS],
-    passes: usize,
+    solved: Minimum,
     e: &[f64],
     b: &[f64],
     a: &[f64],
@@ -56,35 +55,31 @@ fn restored(
     n: usize,
     m: usize,
     r: usize,
-) -> Minimum
+) -> Result<Minimum, SolveError>
     requires { Restores n m r e.now b.now a.now row_lower.now row_upper.now scales.now columns.now }
     ensures { minimized_of n (m + r) result
         ≡ Definition.restored n m r e.now b.now a.now row_lower.now row_upper.now
-        scales.now columns.now (take (n + r) u) (take (m + r) lambda) passes }
+        scales.now columns.now (take (n + r) solved.x) (take (m + r) solved.multipliers) solved.passes }
 {
     let v = n + r;
     let w = m + r;
     let mut x = [0.0; sizes::VARIABLES];
-    vector::div(&u[..v], scales, n, &mut x);
+    vector::div(&solved.x[..v], scales, n, &mut x);
     if feasible(&x[..n], e, b, columns, a, row_lower, row_upper, n, m, r) {
         let mut multipliers = [0.0; sizes::COLUMNS];
-        vector::div(&lambda[..w], columns, w, &mut multipliers);
-        return Minimum {
-            verdict: SolveVerdict::Optimal,
+        vector::div(&solved.multipliers[..w], columns, w, &mut multipliers);
+        return Ok(Minimum {
             x: x,
             multipliers: multipliers,
-            passes: passes,
-        };
+            passes: solved.passes,
+        });
     }
-    minimum::refused(SolveVerdict::SingularCovariance)
+    Err(SolveError::SingularCovariance)
 }
 
 // What is refused passes.
 pub fn original(
-    verdict: SolveVerdict,
-    u: [f64; sizes::VARIABLES],
-    lambda: [f64; sizes::COLUMNS],
-    passes: usize,
+    solved: Result<Minimum, SolveError>,
     e: &[f64],
     b: &[f64],
     a: &[f64],
@@ -95,19 +90,14 @@ pub fn original(
     n: usize,
     m: usize,
     r: usize,
-) -> Minimum
+) -> Result<Minimum, SolveError>
     requires { Restores n m r e.now b.now a.now row_lower.now row_upper.now scales.now columns.now }
     ensures { minimized_of n (m + r) result
         ≡ Definition.original n m r e.now b.now a.now row_lower.now row_upper.now
-        scales.now columns.now (minimized verdict (take (n + r) u) (take (m + r) lambda) passes) }
+        scales.now columns.now (minimized_of (n + r) (m + r) solved) }
 {
-    match verdict {
-        SolveVerdict::Optimal => restored(
-            u, lambda, passes, e, b, a, row_lower, row_upper, scales, columns, n, m, r,
-        ),
-        SolveVerdict::NonFiniteCovariance => minimum::refused(SolveVerdict::NonFiniteCovariance),
-        SolveVerdict::SingularCovariance => minimum::refused(SolveVerdict::SingularCovariance),
-        SolveVerdict::Unbounded => minimum::refused(SolveVerdict::Unbounded),
-        SolveVerdict::NotConverged => minimum::refused(SolveVerdict::NotConverged),
-    }
+    let optimum = solved?;
+    restored(
+        optimum, e, b, a, row_lower, row_upper, scales, columns, n, m, r,
+    )
 }

@@ -1,8 +1,10 @@
 -- qp.rs, `solve_piecewise` and `solve_bounded`: what a call answers and leaves.
 use Rattle.std.specs.Prelude.{◌≡◌, ℕ, List, Float}
 use Rattle.std.proofs.Math.Path.{refl}
+use Rattle.iterate.specs.declared.SolveError.{SolveError}
+use Rattle.iterate.specs.declared.SolveError.TheVariants.{NonFiniteCovariance, SingularCovariance, Unbounded, NotConverged}
 use Rattle.minimum.specs.Minimized as Engine
-use Rattle.minimum.specs.Minimized.{optimal, non_finite, singular, unbounded, not_converged}
+use Rattle.minimum.specs.Minimized.{optimal, refused}
 
 -- the call's answer: its sizes or its bounds refused, or what the engine answers
 pub data PiecewiseAnswer : Type 0 where
@@ -10,43 +12,37 @@ pub data PiecewiseAnswer : Type 0 where
   blank_bound : PiecewiseAnswer
   engine : Engine.Minimized → PiecewiseAnswer
 
--- document 01's number of an answer
+-- document 01's number of an error, and of an answer
+unfoldable pub error_number : SolveError → ℕ
+error_number NonFiniteCovariance = 11
+error_number SingularCovariance = 12
+error_number Unbounded = 13
+error_number NotConverged = 14
+
 unfoldable pub number : PiecewiseAnswer → ℕ
 number wrong_shape = 9
 number blank_bound = 10
 number (engine (optimal x multipliers passes)) = 0
-number (engine non_finite) = 11
-number (engine singular) = 12
-number (engine unbounded) = 13
-number (engine not_converged) = 14
+number (engine (refused e)) = error_number e
 
 -- what the caller's slices and its number of passes hold afterwards, by what they held
 unfoldable pub x_or : PiecewiseAnswer → (held : List Float) → List Float
 x_or wrong_shape o = o
 x_or blank_bound o = o
 x_or (engine (optimal x multipliers passes)) o = x
-x_or (engine non_finite) o = o
-x_or (engine singular) o = o
-x_or (engine unbounded) o = o
-x_or (engine not_converged) o = o
+x_or (engine (refused e)) o = o
 
 unfoldable pub multipliers_or : PiecewiseAnswer → (held : List Float) → List Float
 multipliers_or wrong_shape o = o
 multipliers_or blank_bound o = o
 multipliers_or (engine (optimal x multipliers passes)) o = multipliers
-multipliers_or (engine non_finite) o = o
-multipliers_or (engine singular) o = o
-multipliers_or (engine unbounded) o = o
-multipliers_or (engine not_converged) o = o
+multipliers_or (engine (refused e)) o = o
 
 unfoldable pub passes_or : PiecewiseAnswer → (held : ℕ) → ℕ
 passes_or wrong_shape o = o
 passes_or blank_bound o = o
 passes_or (engine (optimal x multipliers passes)) o = passes
-passes_or (engine non_finite) o = o
-passes_or (engine singular) o = o
-passes_or (engine unbounded) o = o
-passes_or (engine not_converged) o = o
+passes_or (engine (refused e)) o = o
 
 -- what a call gives back for an answer: its number, and what the slices and the passes hold at exit, by what they held at entry
 pub record Written (a : PiecewiseAnswer) (r : ℕ) (x x' multipliers multipliers' : List Float) (passes passes' : ℕ) : Type 0 where
@@ -68,18 +64,6 @@ module _ (x multipliers : List Float) (passes : ℕ) where
   unfolding number x_or multipliers_or passes_or
   refused-blank_bound = record { numbered = refl; x_written = refl; multipliers_written = refl; passes_written = refl }
 
-  pub refused-non_finite : Refused (engine non_finite) 11
+  pub refused-error : (e : SolveError) → Refused (engine (refused e)) (error_number e)
   unfolding number x_or multipliers_or passes_or
-  refused-non_finite = record { numbered = refl; x_written = refl; multipliers_written = refl; passes_written = refl }
-
-  pub refused-singular : Refused (engine singular) 12
-  unfolding number x_or multipliers_or passes_or
-  refused-singular = record { numbered = refl; x_written = refl; multipliers_written = refl; passes_written = refl }
-
-  pub refused-unbounded : Refused (engine unbounded) 13
-  unfolding number x_or multipliers_or passes_or
-  refused-unbounded = record { numbered = refl; x_written = refl; multipliers_written = refl; passes_written = refl }
-
-  pub refused-not_converged : Refused (engine not_converged) 14
-  unfolding number x_or multipliers_or passes_or
-  refused-not_converged = record { numbered = refl; x_written = refl; multipliers_written = refl; passes_written = refl }
+  refused-error e = record { numbered = refl; x_written = refl; multipliers_written = refl; passes_written = refl }

@@ -4,15 +4,16 @@
 
 ghost use Rattle.std.specs.Prelude.{◌≡◌, ◌≤◌, length, take};
 ghost use Rattle.sizes.specs.Sizes as Sizes;
-ghost use Rattle.solution.specs.Solution.{answer};
-ghost use Rattle.minimum.specs.Minimized.{minimized};
-ghost use Rattle.minimum.specs.Capped.{capped};
+ghost use Rattle.solution.specs.Solution.{solution_of};
+ghost use Rattle.minimum.specs.Minimized.{minimized_of};
+ghost use Rattle.minimum.specs.Capped.{capped_of};
 ghost use Rattle.outputs.specs.Kkt as Kkt;
 ghost use Rattle.outputs.specs.Piecewise as Piecewise;
 ghost use Rattle.outputs.specs.Capped as Capped;
 
-use minimum::SolveVerdict;
-use solution::KktVerdict;
+use iterate::SolveError;
+use minimum::{CappedMinimum, Minimum};
+use solution::{KktError, Solution};
 
 // x and the multipliers, in the caller's slices.
 fn copy_out(
@@ -30,37 +31,44 @@ fn copy_out(
     vector::copy(&lambda[..w], w, multipliers);
 }
 
-// The number of a verdict; where it is Solved, x and the multipliers are written.
+// The number of an answer; x and the multipliers of a solution are written.
 pub fn write_solution(
-    verdict: KktVerdict,
-    optimum: [f64; sizes::VARIABLES],
-    lambda: [f64; sizes::COLUMNS],
+    answer: Result<Solution, KktError>,
     n: usize,
     m: usize,
     x: &mut [f64],
     multipliers: &mut [f64],
 ) -> u32
     requires { (n ≤ Sizes.originals) × (m ≤ Sizes.columns) × (length x.old ≡ n) × (length multipliers.old ≡ m) }
-    ensures { Kkt.Written (Kkt.engine (answer verdict (take n optimum) (take m lambda))) result
+    ensures { Kkt.Written (Kkt.engine (solution_of n m answer)) result
         x.old x.new multipliers.old multipliers.new }
 {
-    match verdict {
-        KktVerdict::Solved => {
-            copy_out(optimum, lambda, n, m, x, multipliers);
+    match answer {
+        Ok(s) => {
+            copy_out(s.x, s.multipliers, n, m, x, multipliers);
             0
         }
-        KktVerdict::NoOptimum => 100,
-        KktVerdict::NonFiniteCovariance => 11,
-        KktVerdict::SingularCovariance => 12,
+        Err(KktError::NoOptimum) => 100,
+        Err(KktError::NonFiniteCovariance) => 11,
+        Err(KktError::SingularCovariance) => 12,
     }
 }
 
-// The number of a verdict; where it is Optimal, x, the multipliers and the passes are written.
+// Document 01's number of an error.
+pub fn error_number(error: SolveError) -> u32
+    ensures { result ≡ Piecewise.error_number error }
+{
+    match error {
+        SolveError::NonFiniteCovariance => 11,
+        SolveError::SingularCovariance => 12,
+        SolveError::Unbounded => 13,
+        SolveError::NotConverged => 14,
+    }
+}
+
+// 0 where there is an optimum, whose x, multipliers and passes are written, and else the error's number.
 pub fn write_minimum(
-    verdict: SolveVerdict,
-    optimum: [f64; sizes::VARIABLES],
-    lambda: [f64; sizes::COLUMNS],
-    made: usize,
+    solved: Result<Minimum, SolveError>,
     n: usize,
     w: usize,
     x: &mut [f64],
@@ -68,29 +76,24 @@ pub fn write_minimum(
     passes: &mut u64,
 ) -> u32
     requires { (n ≤ Sizes.originals) × (w ≤ Sizes.columns) × (length x.old ≡ n) × (length multipliers.old ≡ w) }
-    ensures { Piecewise.Written (Piecewise.engine (minimized verdict (take n optimum) (take w lambda) made)) result
+    ensures { Piecewise.Written (Piecewise.engine (minimized_of n w solved)) result
         x.old x.new multipliers.old multipliers.new passes.old passes.new }
 {
-    match verdict {
-        SolveVerdict::Optimal => {
-            copy_out(optimum, lambda, n, w, x, multipliers);
-            *passes = made as u64;
+    match solved {
+        Ok(optimum) => {
+            let optimal_x = optimum.x;
+            let lambda = optimum.multipliers;
+            copy_out(optimal_x, lambda, n, w, x, multipliers);
+            *passes = optimum.passes as u64;
             0
         }
-        SolveVerdict::NonFiniteCovariance => 11,
-        SolveVerdict::SingularCovariance => 12,
-        SolveVerdict::Unbounded => 13,
-        SolveVerdict::NotConverged => 14,
+        Err(error) => error_number(error),
     }
 }
 
 // The same, with the raise.
 pub fn write_capped(
-    verdict: SolveVerdict,
-    optimum: [f64; sizes::VARIABLES],
-    lambda: [f64; sizes::COLUMNS],
-    made: usize,
-    raised: f64,
+    solved: Result<CappedMinimum, SolveError>,
     n: usize,
     w: usize,
     x: &mut [f64],
@@ -99,14 +102,15 @@ pub fn write_capped(
     raise: &mut f64,
 ) -> u32
     requires { (n ≤ Sizes.originals) × (w ≤ Sizes.columns) × (length x.old ≡ n) × (length multipliers.old ≡ w) }
-    ensures { Capped.Written (Capped.engine (capped verdict (take n optimum) (take w lambda) made raised)) result
+    ensures { Capped.Written (Capped.engine (capped_of n w solved)) result
         x.old x.new multipliers.old multipliers.new passes.old passes.new
         raise.old raise.new }
 {
-    let number = write_minimum(verdict, optimum, lambda, made, n, w, x, multipliers, passes);
-    if number != 0 {
-        return number;
+    match solved {
+        Ok(optimum) => {
+            *raise = optimum.raise;
+            write_minimum(Ok(optimum.minimum), n, w, x, multipliers, passes)
+        }
+        Err(error) => write_minimum(Err(error), n, w, x, multipliers, passes),
     }
-    *raise = raised;
-    number
 }

@@ -52,23 +52,10 @@ pub fn solve_piecewise(
         if quadratic::blank(lower, upper, row_lower, row_upper, n, r) {
             return 10;
         }
-        let s = slack_solve::solve_shaped(
+        let solved = slack_solve::solve_shaped(
             q, c, e, b, lower, upper, a, row_lower, row_upper, at, slopes, start, n, m, r,
         );
-        let verdict = s.verdict;
-        let optimum = s.x;
-        let lambda = s.multipliers;
-        return outputs::write_minimum(
-            verdict,
-            optimum,
-            lambda,
-            s.passes,
-            n,
-            m + r,
-            x,
-            multipliers,
-            passes,
-        );
+        return outputs::write_minimum(solved, n, m + r, x, multipliers, passes);
     }
     9
 }

@@ -3,13 +3,14 @@ use Rattle.std.specs.Prelude.{◌≡◌, List, ℕ, ◌≤◌, length, Float}
 use Rattle.folds.specs.Fold.{pick_keep}
 use Rattle.folds.specs.Run.{Kept}
 use Rattle.arith.specs.Float.{infinity}
+use Rattle.iterate.specs.declared.SolveError.TheVariants.{NonFiniteCovariance, SingularCovariance, Unbounded, NotConverged}
 use Rattle.minimum.specs.Minimized as Engine
 use Rattle.minimum.specs.Capped as Capped
 use Rattle.minimum.specs.Laws.{Filled, Within}
 use Rattle.bracket.specs.declared.Bracket.{Bracket}
 use Rattle.bracket.specs.Bracket.{accept}
 use Rattle.bracket.specs.Sized.{Sized, accept-sized, exceed-sized}
-use Rattle.search_step.specs.Step.{Ended, found, non_finite, singular, unbounded, not_converged, double_on, double_by, cut_by, accepted}
+use Rattle.search_step.specs.Step.{Ended, found, refused, double_on, double_by, cut_by, accepted}
 
 abbrev Any : Bracket → Type 0
 Any b = Unit {0}
@@ -21,25 +22,25 @@ module _ (n w budget : ℕ) where
 
   abbrev pub Fits : Ended → Type 0
   Fits (found b) = Sized n w budget b
-  Fits non_finite = Unit {0}
-  Fits singular = Unit {0}
-  Fits unbounded = ⊥
-  Fits not_converged = Unit {0}
+  Fits (refused NonFiniteCovariance) = Unit {0}
+  Fits (refused SingularCovariance) = Unit {0}
+  Fits (refused Unbounded) = ⊥
+  Fits (refused NotConverged) = Unit {0}
 
   abbrev pub Accepted : Capped.Capped → Type 0
   Accepted (Capped.optimal x multipliers passes raise) = (length x ≡ n) × (length multipliers ≡ w) × (1 ≤ passes) × (passes ≤ budget)
-  Accepted Capped.non_finite = Unit {0}
-  Accepted Capped.singular = Unit {0}
-  Accepted Capped.unbounded = ⊥
-  Accepted Capped.not_converged = Unit {0}
+  Accepted (Capped.refused NonFiniteCovariance) = Unit {0}
+  Accepted (Capped.refused SingularCovariance) = Unit {0}
+  Accepted (Capped.refused Unbounded) = ⊥
+  Accepted (Capped.refused NotConverged) = Unit {0}
 
   pub accepted-fits : (o : Ended) → Fits o → Accepted (accepted o)
   unfolding accepted
   accepted-fits (found b) z = (z.best_long, z.multipliers_long, z.some, z.few)
-  accepted-fits non_finite z = tt
-  accepted-fits singular z = tt
-  accepted-fits unbounded z = z
-  accepted-fits not_converged z = tt
+  accepted-fits (refused NonFiniteCovariance) z = tt
+  accepted-fits (refused SingularCovariance) z = tt
+  accepted-fits (refused Unbounded) z = z
+  accepted-fits (refused NotConverged) z = tt
 
   accept-fits : (u : Bracket) (at value : Float) (x multipliers : List Float) (passes : ℕ) → Answers (Engine.optimal x multipliers passes) →
       Sized n w budget (accept at value x multipliers passes u)
@@ -56,10 +57,10 @@ module _ (n w budget : ℕ) where
     unfolding double_by Kept
     double-fits (Engine.optimal x multipliers passes) k =
         pick_keep (Kept Any Fits) _ (accept-fits t t.high _ x multipliers passes k) (on-fits _)
-    double-fits Engine.unbounded k = on-fits _
-    double-fits Engine.non_finite k = tt
-    double-fits Engine.singular k = tt
-    double-fits Engine.not_converged k = tt
+    double-fits (Engine.refused Unbounded) k = on-fits _
+    double-fits (Engine.refused NonFiniteCovariance) k = tt
+    double-fits (Engine.refused SingularCovariance) k = tt
+    double-fits (Engine.refused NotConverged) k = tt
 
     -- ---- the cuts
     pub cut-fits : (s : Engine.Minimized) → Sized n w budget t → Answers s → Kept (Sized n w budget) Fits (cut_by n at limit t s)
@@ -68,7 +69,7 @@ module _ (n w budget : ℕ) where
         pick_keep (Kept (Sized n w budget) Fits) _
         (accept-fits t t.middle _ x multipliers passes k)
         (exceed-sized n w budget t z t.middle _)
-    cut-fits Engine.unbounded z k = exceed-sized n w budget t z t.middle infinity
-    cut-fits Engine.non_finite z k = tt
-    cut-fits Engine.singular z k = tt
-    cut-fits Engine.not_converged z k = tt
+    cut-fits (Engine.refused Unbounded) z k = exceed-sized n w budget t z t.middle infinity
+    cut-fits (Engine.refused NonFiniteCovariance) z k = tt
+    cut-fits (Engine.refused SingularCovariance) z k = tt
+    cut-fits (Engine.refused NotConverged) z k = tt

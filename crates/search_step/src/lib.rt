@@ -2,88 +2,71 @@
 // ends in. at are the kinks' points.
 #![tactic(auto)]
 
-ghost use Rattle.std.specs.Prelude.{◌≡◌, ℕ, ◌≤◌, length, take};
+ghost use Rattle.std.specs.Prelude.{◌≡◌, ℕ, ◌≤◌, length, Ok};
 ghost use Rattle.sizes.specs.Sizes as Sizes;
-ghost use Rattle.minimum.specs.Minimized.{minimized};
+ghost use Rattle.minimum.specs.Minimized.{minimized_of};
 ghost use Rattle.minimum.specs.Capped.{capped_of};
 ghost use Rattle.bracket.specs.Bracket.{bracket_of};
-ghost use Rattle.search_step.specs.Step.{Gives, stepped_of, ended_of};
+ghost use Rattle.search_step.specs.Step.{Gives, stepped_of, found};
 ghost use Rattle.search_step.specs.Step as Definition;
 
 use bracket::Bracket;
-use minimum::{CappedMinimum, SolveVerdict};
+use iterate::SolveError;
+use minimum::{CappedMinimum, Minimum};
 
 const MAX: f64 = 1.7976931348623157e308;
 
-// What a step of the search gives: the next bracket where there are more, and else the verdict, with the bracket that it is found in where it is
-// Optimal.
+// Where a step of the search leads: to the next bracket, or to the one whose best solution is the answer.
 #[derive(Drop)]
-pub struct Stepped {
-    pub more: bool,
-    pub verdict: SolveVerdict,
-    pub bracket: Bracket,
-}
-
-fn more(bracket: Bracket) -> Stepped
-    ensures { Gives result bracket Definition.goes }
-{
-    Stepped {
-        more: true,
-        verdict: SolveVerdict::Optimal,
-        bracket: bracket,
-    }
-}
-
-pub fn ended(verdict: SolveVerdict, bracket: Bracket) -> Stepped
-    ensures { Gives result bracket (Definition.ends verdict) }
-{
-    Stepped {
-        more: false,
-        verdict: verdict,
-        bracket: bracket,
-    }
+pub enum Stepped {
+    More(Bracket),
+    Found(Bracket),
 }
 
 // ---- the doubling
 // `high` is past the limit: on to twice it.
-fn double_on(bracket: Bracket) -> Stepped
+fn double_on(bracket: Bracket) -> Result<Stepped, SolveError>
     ensures { Gives result bracket Definition.double_on }
 {
     if bracket.high > MAX / 2.0 {
-        return ended(SolveVerdict::NotConverged, bracket);
+        return Err(SolveError::NotConverged);
     }
-    more(bracket.double())
+    Ok(Stepped::More(bracket.double()))
 }
 
 // What the solve at `high` answered. An objective with no minimum runs off past any limit; any other error is the arithmetic breaking down.
 pub fn double_by(
     bracket: Bracket,
-    verdict: SolveVerdict,
-    x: [f64; sizes::VARIABLES],
-    multipliers: [f64; sizes::COLUMNS],
-    passes: usize,
+    solved: Result<Minimum, SolveError>,
     at: &[f64],
     limit: f64,
     n: usize,
-) -> Stepped
+) -> Result<Stepped, SolveError>
     requires { (n ≤ Sizes.originals) × (n ≤ length at.now) }
     ensures { (w : ℕ) → stepped_of n w result
-        ≡ Definition.double_by n at.now limit (bracket_of n w bracket) (minimized verdict (take n x) (take w multipliers) passes) }
+        ≡ Definition.double_by n at.now limit (bracket_of n w bracket) (minimized_of n w solved) }
 {
-    match verdict {
-        SolveVerdict::Optimal => {
+    match solved {
+        Ok(optimum) => {
+            let x = optimum.x;
+            let multipliers = optimum.multipliers;
             let value = turnover::turnover(&x[..n], at, n);
             if turnover::within(value, limit, &x[..n], n) {
-                let best = bracket.accept(bracket.high, value, x, multipliers, passes);
-                return ended(SolveVerdict::Optimal, best);
+                return Ok(Stepped::Found(bracket.accept(
+                    bracket.high,
+                    value,
+                    x,
+                    multipliers,
+                    optimum.passes,
+                )));
             }
             let past = bracket.exceed(bracket.high, value);
             double_on(past.warmed(x))
         }
-        SolveVerdict::Unbounded => double_on(bracket.exceed(bracket.high, arith::infinity())),
-        SolveVerdict::NonFiniteCovariance => ended(SolveVerdict::NotConverged, bracket),
-        SolveVerdict::SingularCovariance => ended(SolveVerdict::NotConverged, bracket),
-        SolveVerdict::NotConverged => ended(SolveVerdict::NotConverged, bracket),
+        Err(error) => match error {
+            SolveError::Unbounded => double_on(bracket.exceed(bracket.high, arith::infinity())),
+            _ => Err(SolveError::NotConverged),
+        },
     }
 }
 
@@ -91,47 +74,54 @@ pub fn double_by(
 // What the solve at the middle answered.
 pub fn cut_by(
     bracket: Bracket,
-    verdict: SolveVerdict,
-    x: [f64; sizes::VARIABLES],
-    multipliers: [f64; sizes::COLUMNS],
-    passes: usize,
+    solved: Result<Minimum, SolveError>,
     at: &[f64],
     limit: f64,
     n: usize,
-) -> Stepped
+) -> Result<Stepped, SolveError>
     requires { (n ≤ Sizes.originals) × (n ≤ length at.now) }
     ensures { (w : ℕ) → stepped_of n w result
-        ≡ Definition.cut_by n at.now limit (bracket_of n w bracket) (minimized verdict (take n x) (take w multipliers) passes) }
+        ≡ Definition.cut_by n at.now limit (bracket_of n w bracket) (minimized_of n w solved) }
 {
-    match verdict {
-        SolveVerdict::Optimal => {
+    match solved {
+        Ok(optimum) => {
+            let x = optimum.x;
+            let multipliers = optimum.multipliers;
             let value = turnover::turnover(&x[..n], at, n);
             if turnover::within(value, limit, &x[..n], n) {
-                return more(bracket.accept(bracket.middle, value, x, multipliers, passes));
+                return Ok(Stepped::More(bracket.accept(
+                    bracket.middle,
+                    value,
+                    x,
+                    multipliers,
+                    optimum.passes,
+                )));
             }
-            more(bracket.exceed(bracket.middle, value))
+            Ok(Stepped::More(bracket.exceed(bracket.middle, value)))
         }
-        SolveVerdict::Unbounded => more(bracket.exceed(bracket.middle, arith::infinity())),
-        SolveVerdict::NonFiniteCovariance => ended(SolveVerdict::NonFiniteCovariance, bracket),
-        SolveVerdict::SingularCovariance => ended(SolveVerdict::SingularCovariance, bracket),
-        SolveVerdict::NotConverged => ended(SolveVerdict::NotConverged, bracket),
+        Err(error) => match error {
+            SolveError::Unbounded => {
+                Ok(Stepped::More(bracket.exceed(bracket.middle, arith::infinity())))
+            }
+            _ => Err(error),
+        },
     }
 }
 
 // ---- the answer
 // The bracket's best solution, accepted at `high`.
-pub fn accepted(s: Stepped) -> CappedMinimum
-    ensures { (n w : ℕ) → capped_of n w result ≡ Definition.accepted (ended_of n w s) }
+pub fn accepted(bracket: Bracket) -> CappedMinimum
+    ensures { (n w : ℕ) → capped_of n w (Ok result) ≡ Definition.accepted (found (bracket_of n w bracket)) }
 {
-    let verdict = s.verdict;
-    let bracket = s.bracket;
     let x = bracket.best;
     let multipliers = bracket.multipliers;
-    CappedMinimum {
-        verdict: verdict,
+    let minimum = Minimum {
         x: x,
         multipliers: multipliers,
         passes: bracket.passes,
+    };
+    CappedMinimum {
+        minimum: minimum,
         raise: bracket.high,
     }
 }

@@ -8,6 +8,7 @@ ghost use Rattle.quadratic.specs.Quadratic.{quadratic};
 ghost use Rattle.quadratic.specs.Holds.{Holds};
 ghost use Rattle.slack_solve.specs.SlackSolve as Definition;
 
+use iterate::SolveError;
 use minimum::Minimum;
 
 // The entries of a matrix of work memory, which has a row for each variable with the slacks and as many columns, or a column for each column of E
@@ -37,7 +38,7 @@ fn solve_scaled(
     n: usize,
     m: usize,
     r: usize,
-) -> Minimum
+) -> Result<Minimum, SolveError>
     requires { Holds n m r c.now b.now lower.now upper.now a.now row_lower.now row_upper.now at.now slopes.now
         start.now
         × ((n + r) * (n + r) ≤ length uq.now)
@@ -85,7 +86,7 @@ fn solve_with_slacks(
     n: usize,
     m: usize,
     r: usize,
-) -> Minimum
+) -> Result<Minimum, SolveError>
     requires { Holds n m r c.now b.now lower.now upper.now a.now row_lower.now row_upper.now at.now slopes.now
         start.now
         × (n * m ≤ length e.now)
@@ -102,7 +103,7 @@ fn solve_with_slacks(
     let columns = units::column_scales(&e_all[..], v, w);
     units::units_k(q_all, v, &scales[..v]);
     units::units_e(e_all, v, w, &scales[..v], &columns[..w]);
-    let s = solve_scaled(
+    let solved = solve_scaled(
         &q_all[..],
         &e_all[..],
         c,
@@ -121,14 +122,8 @@ fn solve_with_slacks(
         m,
         r,
     );
-    let verdict = s.verdict;
-    let u = s.x;
-    let lambda = s.multipliers;
     original_units::original(
-        verdict,
-        u,
-        lambda,
-        s.passes,
+        solved,
         e,
         b,
         a,
@@ -161,7 +156,7 @@ fn solve_in(
     r: usize,
     q_all: &mut [f64],
     e_all: &mut [f64],
-) -> Minimum
+) -> Result<Minimum, SolveError>
     requires { Holds n m r c.now b.now lower.now upper.now a.now row_lower.now row_upper.now at.now slopes.now
         start.now
         × (n * n ≤ length q.now)
@@ -198,7 +193,8 @@ fn solve_in(
     )
 }
 
-fn solve_small(
+// In work memory of SQUARE and TALL numbers.
+fn solve_within<const SQUARE: usize, const TALL: usize>(
     q: &[f64],
     c: &[f64],
     e: &[f64],
@@ -214,54 +210,22 @@ fn solve_small(
     n: usize,
     m: usize,
     r: usize,
-) -> Minimum
+) -> Result<Minimum, SolveError>
     requires { Holds n m r c.now b.now lower.now upper.now a.now row_lower.now row_upper.now at.now slopes.now
         start.now
         × (n * n ≤ length q.now)
         × (n * m ≤ length e.now)
-        × (n ≤ Sizes.few)
-        × (r ≤ Sizes.few) }
+        × ((n + r) * (n + r) ≤ SQUARE)
+        × ((n + r) * (m + r) ≤ TALL)
+        × (SQUARE ≤ Sizes.variables * Sizes.variables)
+        × (TALL ≤ Sizes.variables * Sizes.columns) }
     ensures { minimized_of n (m + r) result
         ≡ Definition.solve (quadratic n m r q.now c.now e.now b.now lower.now
         upper.now a.now row_lower.now row_upper.now at.now slopes.now
         start.now) }
 {
-    let mut q_all = [0.0; SMALL_ALL];
-    let mut e_all = [0.0; SMALL_ALL];
-    solve_in(
-        q, c, e, b, lower, upper, a, row_lower, row_upper, at, slopes, start, n, m, r, &mut q_all,
-        &mut e_all,
-    )
-}
-
-fn solve_large(
-    q: &[f64],
-    c: &[f64],
-    e: &[f64],
-    b: &[f64],
-    lower: &[f64],
-    upper: &[f64],
-    a: &[f64],
-    row_lower: &[f64],
-    row_upper: &[f64],
-    at: &[f64],
-    slopes: &[f64],
-    start: &[f64],
-    n: usize,
-    m: usize,
-    r: usize,
-) -> Minimum
-    requires { Holds n m r c.now b.now lower.now upper.now a.now row_lower.now row_upper.now at.now slopes.now
-        start.now
-        × (n * n ≤ length q.now)
-        × (n * m ≤ length e.now) }
-    ensures { minimized_of n (m + r) result
-        ≡ Definition.solve (quadratic n m r q.now c.now e.now b.now lower.now
-        upper.now a.now row_lower.now row_upper.now at.now slopes.now
-        start.now) }
-{
-    let mut q_all = [0.0; ALL_SQUARE];
-    let mut e_all = [0.0; ALL_TALL];
+    let mut q_all = [0.0; SQUARE];
+    let mut e_all = [0.0; TALL];
     solve_in(
         q, c, e, b, lower, upper, a, row_lower, row_upper, at, slopes, start, n, m, r, &mut q_all,
         &mut e_all,
@@ -285,7 +249,7 @@ pub fn solve_shaped(
     n: usize,
     m: usize,
     r: usize,
-) -> Minimum
+) -> Result<Minimum, SolveError>
     requires { Holds n m r c.now b.now lower.now upper.now a.now row_lower.now row_upper.now at.now slopes.now
         start.now
         × (n * n ≤ length q.now)
@@ -295,14 +259,12 @@ pub fn solve_shaped(
         upper.now a.now row_lower.now row_upper.now at.now slopes.now
         start.now) }
 {
-    if n <= sizes::FEW {
-        if r <= sizes::FEW {
-            return solve_small(
-                q, c, e, b, lower, upper, a, row_lower, row_upper, at, slopes, start, n, m, r,
-            );
-        }
+    if n <= sizes::FEW && r <= sizes::FEW {
+        return solve_within::<{ SMALL_ALL }, { SMALL_ALL }>(
+            q, c, e, b, lower, upper, a, row_lower, row_upper, at, slopes, start, n, m, r,
+        );
     }
-    solve_large(
+    solve_within::<{ ALL_SQUARE }, { ALL_TALL }>(
         q, c, e, b, lower, upper, a, row_lower, row_upper, at, slopes, start, n, m, r,
     )
 }

@@ -34,12 +34,13 @@ lengths c =
 -- where the budget is spent, and where the last pass was made
 pub returns : goal.returns
 returns c =
-    all-spent _ _ _ _ _ _ _ _ _ _ _ _ _ c.loop-made.invariant.4 _ (rw c.budget-made-end.ensures at c.loop-made-test.false) c.refused.ensures
+    all-spent _ _ _ _ _ _ _ _ _ _ _ _ _ c.loop-made.invariant.4 (rw c.budget-made-end.ensures at c.loop-made-test.false)
 
-pub returns-else-goes_on : goal.returns-else-goes_on
-returns-else-goes_on c =
-    let t = (goal.at.returns-else-goes_on c).In-loop-made in
-    ended _ _ _ _ _ _ _ _ _ _ _ _ _ c.loop-made.invariant.4 _ _ (under t) c.pass-step.ensures.l_after _ c.answered.ensures
+pub returns-in-Some : goal.returns-in-Some
+returns-in-Some c =
+    let t = (goal.at.returns-in-Some c).In-loop-made in
+    ended _ _ _ _ _ _ _ _ _ _ _ _ _ c.loop-made.invariant.4 _ _ (under t) c.pass-step.ensures.l_after _
+    (rw c.in-Some.is at c.answered.ensures)
 
 pub pass-step-requires : goal.pass-step-requires
 pass-step-requires c =
@@ -55,7 +56,7 @@ loop-made-preserved c =
       e.consistent.0,
       e.consistent.1,
       again _ _ _ _ _ _ _ _ _ _ _ _ _ c.loop-made.invariant.4 _ _ (under at.In-loop-made) e.l_after
-          (sym c.goes_on.ensures ∙ c.if-goes_on.true),
+          (rw c.in_default.is at c.answered.ensures),
     )
 
 -- a number of passes fits
@@ -75,4 +76,4 @@ loop-made-init c = (
 )
 
 pub answered-requires : goal.answered-requires
-answered-requires c = (sym c.goes_on.ensures ∙ c.if-goes_on.false, omega (arith, counted-fits (goal.at.answered-requires c).In-loop-made))
+answered-requires c = omega (arith, counted-fits (goal.at.answered-requires c).In-loop-made)

@@ -1,5 +1,4 @@
 use Rattle.folds.specs.Kit.{sym, ◌∙◌, arith, rules}
-use Rattle.minimum.specs.Laws.{capped_of-capped}
 use Rattle.quadratic.specs.Laws.{shape}
 use Rattle.turnover.specs.Laws.{kink_above}
 use Rattle.multiplier.specs.Ready.{ready}
@@ -17,8 +16,8 @@ kink_multiplier-first-requires c =
     let s = shape _ _ _ _ _ _ _ _ _ _ _ _ _ _ _ _ _ (sym c.shaped.ensures ∙ c.if-shaped.true) in
     (omega (arith, s.holds.originals), s.q_holds, s.holds.c_holds, s.holds.at_holds)
 
-pub search_multiplier-s-requires : goal.search_multiplier-s-requires
-search_multiplier-s-requires c =
+pub search_multiplier-solved-requires : goal.search_multiplier-solved-requires
+search_multiplier-solved-requires c =
     let s = shape _ _ _ _ _ _ _ _ _ _ _ _ _ _ _ _ _ (sym c.shaped.ensures ∙ c.if-shaped.true) in
     (ready s, rw c.kink_multiplier-first.ensures (kink_above _ _ _ _), s.start_long)
 
@@ -42,7 +41,7 @@ pub returns-then-shaped : goal.returns-then-shaped
 returns-then-shaped c =
     rw (engine-answers _ _ _ _ _ _ _ _ _ _ _ _ _ _ _ _ _ _ (sym c.shaped.ensures ∙ c.if-shaped.true)
     (sym c.blank.ensures ∙ c.if-blank.false) c.kink_multiplier-first.ensures
-    (sym (capped_of-capped _ _ _) ∙ c.search_multiplier-s.ensures))
+    c.search_multiplier-solved.ensures)
     c.write_capped.ensures
 
 pub returns : goal.returns

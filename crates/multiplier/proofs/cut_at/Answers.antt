@@ -1,5 +1,4 @@
 use Rattle.folds.specs.Kit.{sym, ◌∙◌}
-use Rattle.minimum.specs.Laws.{minimized_of-minimized}
 use Rattle.multiplier.specs.Search.{cut_at}
 use Rattle.multiplier.proofs.cut_at.Goals as goal
 
@@ -8,4 +7,4 @@ cut_by-requires c = let p = c.requires in (p.originals, p.at_holds)
 
 pub returns : goal.returns
 unfolding cut_at
-returns c = c.cut_by.ensures _ ∙ rw (sym (minimized_of-minimized _ _ _) ∙ c.solve_raised-s.ensures)
+returns c = c.cut_by.ensures _ ∙ rw c.solve_raised-solved.ensures

@@ -5,7 +5,7 @@ use Rattle.sizes.specs.Sizes as Sizes
 use lib.Seq.{length-take-le}
 use Rattle.bracket.specs.Bracket.{bracket_of, cut, closed}
 use Rattle.bracket.specs.Laws.{cut-of, cut-closed}
-use Rattle.search_step.specs.Laws.{ends-found}
+use Rattle.search_step.specs.Laws.{stepped-found}
 use Rattle.multiplier.specs.Search.{cut_step, cut_at}
 use Rattle.multiplier.proofs.cut_step.Goals as goal
 use Rattle.multiplier.proofs.cut_step.Goals.{After-closed, Start}
@@ -26,7 +26,7 @@ reaches-requires c = let k = fits (goal.at.reaches-requires c).Start in omega (a
 
 pub returns-then-reaches : goal.returns-then-reaches
 unfolding cut_step
-returns-then-reaches c = pick_true _ _ (sym c.reaches.ensures ∙ c.if-reaches.true) (c.ended.ensures _ _ ∙ ends-found _)
+returns-then-reaches c = pick_true _ _ (sym c.reaches.ensures ∙ c.if-reaches.true) (stepped-found _ _ _)
 
 -- whether the cut is closed
 closed-by : (c : After-closed) → let a = c.args in closed (cut a.limit (bracket_of a.n (a.m + a.r) a.bracket)) ≡ c.closed.result
@@ -38,7 +38,7 @@ pub returns-then-closed : goal.returns-then-closed
 unfolding cut_step
 returns-then-closed c =
     pick_false _ _ (sym c.reaches.ensures ∙ c.if-reaches.false)
-    (pick_true _ _ (closed-by (goal.at.returns-then-closed c).After-closed ∙ c.if-closed.true) (c.ended-then-closed.ensures _ _ ∙ ends-found _))
+    (pick_true _ _ (closed-by (goal.at.returns-then-closed c).After-closed ∙ c.if-closed.true) (stepped-found _ _ _))
 
 pub returns : goal.returns
 unfolding cut_step

@@ -1,15 +1,14 @@
 use Rattle.folds.specs.Kit.{◌≡◌, refl, sym, ◌∙◌, ◌+◌}
 use Rattle.bracket.specs.Bracket.{bracket_of}
 use Rattle.bracket.specs.Ends.{Held, rising-held, width}
-use Rattle.search_step.specs.Laws.{stepped-more, stepped-done}
 use Rattle.multiplier.specs.Search.{problem, narrowed}
 use Rattle.multiplier.specs.Ends.{cut_in, narrowed-more, narrowed-done}
 use Rattle.multiplier.proofs.narrow.Given as goal
 
-abbrev pub invariant-loop-t : goal.invariant-loop-t
-invariant-loop-t l = Held l.t
+abbrev pub invariant-loop-step : goal.invariant-loop-step
+invariant-loop-step l = Held l.t
     × (narrowed (problem l.n l.m l.r l.q l.c l.e l.b l.lower l.upper l.a l.row_lower l.row_upper l.at l.slopes) l.limit (bracket_of l.n (l.m + l.r) l.t)
     ≡ narrowed (problem l.n l.m l.r l.q l.c l.e l.b l.lower l.upper l.a l.row_lower l.row_upper l.at l.slopes) l.limit (bracket_of l.n (l.m + l.r) l.initial.t))
 
-abbrev pub decreases-loop-t : goal.decreases-loop-t
-decreases-loop-t l = width l.t
+abbrev pub decreases-loop-step : goal.decreases-loop-step
+decreases-loop-step l = width l.t

@@ -1,28 +1,40 @@
-use Rattle.folds.specs.Kit.{◌≡◌, refl, sym, ◌∙◌, ◌+◌}
-use Rattle.bracket.specs.Bracket.{bracket_of}
-use Rattle.bracket.specs.Ends.{Held, rising-held, ups}
-use Rattle.search_step.specs.Laws.{stepped-more, stepped-done}
-use Rattle.multiplier.specs.Search.{problem, reached}
+use Rattle.std.specs.Prelude.{Ok}
+use Rattle.std.proofs.lemmas.Result.{err_from_is_err_and}
+use Rattle.folds.specs.Kit.{refl, sym, ap, ◌∙◌}
+use Rattle.bracket.specs.Ends.{rising-held}
+use Rattle.search_step.specs.Step.{stepped_of}
+use Rattle.search_step.specs.Laws.{stepped-more, stepped-found, stepped-err, ended-ok, ended-err}
 use Rattle.multiplier.specs.Ends.{double-up, reached-more, reached-done}
 use Rattle.multiplier.proofs.reach.Goals as goal
 
-pub loop-t-init : goal.loop-t-init
-loop-t-init c =
+pub loop-step-init : goal.loop-step-init
+loop-step-init c =
     (rising-held _ c.well_formed.0.1.1.0.1 c.well_formed.0.1.1.1.1.1.0.1 c.requires.1, refl)
 
-pub double_step-s-requires : goal.double_step-s-requires
-double_step-s-requires c = c.requires.0
+pub double_step-requires : goal.double_step-requires
+double_step-requires c = c.requires.0
 
-pub loop-t-smaller : goal.loop-t-smaller
-loop-t-smaller c =
-    let e = sym c.double_step-s.ensures ∙ stepped-more _ _ _ c.if-s.true in
-    (double-up _ _ _ _ c.loop-t.invariant.0 e).1
+pub loop-step-smaller : goal.loop-step-smaller
+loop-step-smaller c =
+    let e = sym c.double_step.ensures ∙ ap (stepped_of _ _) (c.in_ok-step.was ∙ ap Ok c.in-More.is) ∙ stepped-more _ _ _ in
+    (double-up _ _ _ _ c.loop-step.invariant.0 e).1
 
-pub loop-t-preserved : goal.loop-t-preserved
-loop-t-preserved c =
-    let i = c.loop-t.invariant in
-    let e = sym c.double_step-s.ensures ∙ stepped-more _ _ _ c.if-s.true in
+pub loop-step-preserved : goal.loop-step-preserved
+loop-step-preserved c =
+    let i = c.loop-step.invariant in
+    let e = sym c.double_step.ensures ∙ ap (stepped_of _ _) (c.in_ok-step.was ∙ ap Ok c.in-More.is) ∙ stepped-more _ _ _ in
     ((double-up _ _ _ _ i.0 e).0, reached-more _ _ _ _ i.0 e ∙ i.1)
 
-pub returns-else-s : goal.returns-else-s
-returns-else-s c = reached-done _ _ _ _ (sym c.double_step-s.ensures ∙ stepped-done _ _ _ c.if-s.false) ∙ c.loop-t.invariant.1
+pub returns-in-Found : goal.returns-in-Found
+returns-in-Found c =
+    ended-ok _ _ _
+    ∙ reached-done _ _ _ _ (sym c.double_step.ensures ∙ ap (stepped_of _ _) (c.in_ok-step.was ∙ ap Ok c.in-Found.is) ∙ stepped-found _ _ _)
+    ∙ c.loop-step.invariant.1
+
+pub returns-in_err-step : goal.returns-in_err-step
+returns-in_err-step c =
+    let p = err_from_is_err_and c.from_residual.result c.from_residual.ensures.1 in
+    rw (p.1, p.2)
+    (ended-err _ _ _
+    ∙ reached-done _ _ _ _ (sym c.double_step.ensures ∙ ap (stepped_of _ _) c.in_err-step.was ∙ stepped-err _ _ _)
+    ∙ c.loop-step.invariant.1)

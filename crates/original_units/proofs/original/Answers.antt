@@ -1,29 +1,17 @@
-use Rattle.folds.specs.Kit.{◌∙◌}
-use Rattle.minimum.specs.Laws.{minimized-optimal, minimized-non_finite, minimized-singular, minimized-unbounded, minimized-not_converged}
-use Rattle.minimum.specs.Laws.{minimized_of-non_finite, minimized_of-singular, minimized_of-unbounded, minimized_of-not_converged}
+use Rattle.std.proofs.lemmas.Result.{err_from_is_err_and}
+use Rattle.minimum.specs.Minimized.{minimized_of}
 use Rattle.original_units.specs.Original.{original}
 use Rattle.original_units.proofs.original.Goals as goal
 
 pub restored-requires : goal.restored-requires
-unfolding original
 restored-requires c = c.requires
 
-pub returns-in-Optimal : goal.returns-in-Optimal
-unfolding original
-returns-in-Optimal c = rw (c.in-Optimal.is, minimized-optimal) c.restored.ensures
+pub returns : goal.returns
+unfolding original minimized_of
+returns c = rw c.in_ok-optimum.was c.restored.ensures
 
-pub returns-in-NonFiniteCovariance : goal.returns-in-NonFiniteCovariance
-unfolding original
-returns-in-NonFiniteCovariance c = minimized_of-non_finite _ _ _ c.refused.ensures ∙ rw (c.in-NonFiniteCovariance.is, minimized-non_finite)
-
-pub returns-in-SingularCovariance : goal.returns-in-SingularCovariance
-unfolding original
-returns-in-SingularCovariance c = minimized_of-singular _ _ _ c.refused-in-SingularCovariance.ensures ∙ rw (c.in-SingularCovariance.is, minimized-singular)
-
-pub returns-in-Unbounded : goal.returns-in-Unbounded
-unfolding original
-returns-in-Unbounded c = minimized_of-unbounded _ _ _ c.refused-in-Unbounded.ensures ∙ rw (c.in-Unbounded.is, minimized-unbounded)
-
-pub returns-in-NotConverged : goal.returns-in-NotConverged
-unfolding original
-returns-in-NotConverged c = minimized_of-not_converged _ _ _ c.refused-in-NotConverged.ensures ∙ rw (c.in-NotConverged.is, minimized-not_converged)
+pub returns-in_err-optimum : goal.returns-in_err-optimum
+unfolding original minimized_of
+returns-in_err-optimum c =
+    let p = err_from_is_err_and c.from_residual.result c.from_residual.ensures.1 in
+    rw (p.1, p.2, c.in_err-optimum.was)

@@ -1,12 +1,15 @@
-use Rattle.folds.specs.Kit.{refl}
-use Rattle.outputs.specs.Capped.{with_raise}
+use Rattle.folds.specs.Kit.{rules}
+use Rattle.outputs.specs.Capped.{with_raise, without_raise}
 use Rattle.outputs.proofs.write_capped.Goals as goal
 
-pub returns-then-number-ne0 : goal.returns-then-number-ne0
-returns-then-number-ne0 c = with_raise _ _ _ _ _ c.write_minimum-number.ensures (λ z. absurd (c.if-number-ne0.true z)) (λ _. refl)
+pub write_minimum-requires : goal.write_minimum-requires
+write_minimum-requires c = c.requires
 
-pub returns : goal.returns
-returns c = with_raise _ _ _ _ _ c.write_minimum-number.ensures (λ _. refl) (λ k. absurd (k c.if-number-ne0.false))
+pub write_minimum-requires-in-Err : goal.write_minimum-requires-in-Err
+write_minimum-requires-in-Err c = c.requires
 
-pub write_minimum-number-requires : goal.write_minimum-number-requires
-write_minimum-number-requires c = c.requires
+pub returns-in-Ok : goal.returns-in-Ok
+returns-in-Ok c = rw c.in-Ok.is (with_raise _ _ _ c.write_minimum.ensures)
+
+pub returns-in-Err : goal.returns-in-Err
+returns-in-Err c = rw c.in-Err.is (without_raise _ _ _ c.write_minimum-in-Err.ensures)

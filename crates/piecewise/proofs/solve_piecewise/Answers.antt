@@ -1,5 +1,4 @@
 use Rattle.folds.specs.Kit.{sym, ◌∙◌, arith, rules}
-use Rattle.minimum.specs.Laws.{minimized_of-minimized}
 use Rattle.quadratic.specs.Laws.{shape}
 use Rattle.outputs.specs.Piecewise.{refused-wrong_shape, refused-blank_bound}
 use Rattle.piecewise.specs.Laws.{wrong_shape_lem, blank-bound, engine-answers}
@@ -10,8 +9,8 @@ blank-requires c =
     let s = (shape _ _ _ _ _ _ _ _ _ _ _ _ _ _ _ _ _ (sym c.shaped.ensures ∙ c.if-shaped.true)).holds in
     (s.lower_holds, s.upper_holds, s.row_lower_holds, s.row_upper_holds)
 
-pub solve_shaped-s-requires : goal.solve_shaped-s-requires
-solve_shaped-s-requires c =
+pub solve_shaped-solved-requires : goal.solve_shaped-solved-requires
+solve_shaped-solved-requires c =
     let s = shape _ _ _ _ _ _ _ _ _ _ _ _ _ _ _ _ _ (sym c.shaped.ensures ∙ c.if-shaped.true) in (s.holds, s.q_holds, s.e_holds)
 
 pub overflow_add-m : goal.overflow_add-m
@@ -34,7 +33,7 @@ pub returns-then-shaped : goal.returns-then-shaped
 returns-then-shaped c =
     rw (engine-answers _ _ _ _ _ _ _ _ _ _ _ _ _ _ _ _ _ (sym c.shaped.ensures ∙ c.if-shaped.true)
     (sym c.blank.ensures ∙ c.if-blank.false)
-    (sym (minimized_of-minimized _ _ _) ∙ c.solve_shaped-s.ensures))
+    c.solve_shaped-solved.ensures)
     c.write_minimum.ensures
 
 pub returns : goal.returns

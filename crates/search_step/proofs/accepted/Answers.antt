@@ -1,7 +1,8 @@
-use Rattle.folds.specs.Kit.{◌∙◌}
-use Rattle.minimum.specs.Laws.{capped_of-capped}
-use Rattle.search_step.specs.Laws.{accepted-from}
+use Rattle.folds.specs.Kit.{refl}
+use Rattle.minimum.specs.Capped.{capped_of}
+use Rattle.search_step.specs.Step.{accepted}
 use Rattle.search_step.proofs.accepted.Goals as goal
 
 pub returns : goal.returns
-returns c n w = capped_of-capped n w _ ∙ accepted-from n w c.args.s
+unfolding capped_of accepted
+returns c n w = refl

@@ -4,7 +4,6 @@ use Rattle.folds.specs.Kit.{◌+◌, ◌≤◌, sym, ◌∙◌, arith, length}
 use lib.Seq.{length-take-le}
 use Rattle.folds.specs.Tab.{over-whole}
 use Rattle.units.specs.Laws.{length-units_k, length-units_e}
-use Rattle.minimum.specs.Laws.{minimized_of-minimized}
 use Rattle.slack_solve.specs.Laws.{with_slacks-from}
 use Rattle.slack_solve.proofs.solve_with_slacks.Goals as goal
 use Rattle.slack_solve.proofs.solve_with_slacks.Goals.{After-column_scales-columns}
@@ -70,9 +69,9 @@ units_e-requires c =
     let k = columns-hold at in
     (omega (arith, c.requires.3), omega (arith, length-take {A = Float}), omega (arith, length-take {A = Float}))
 
-pub solve_scaled-s-requires : goal.solve_scaled-s-requires
-solve_scaled-s-requires c =
-    let at = (goal.at.solve_scaled-s-requires c).After-column_scales-columns in
+pub solve_scaled-solved-requires : goal.solve_scaled-solved-requires
+solve_scaled-solved-requires c =
+    let at = (goal.at.solve_scaled-solved-requires c).After-column_scales-columns in
     let s = scales-hold at in
     let k = columns-hold at in
     let p = c.requires in (
@@ -108,7 +107,7 @@ returns c =
     with_slacks-from _ _ _ _ _ _ _ _ _ _ _ _ _ _ _ _ c.scales_with_slacks-scales.ensures c.column_scales-columns.ensures
     (over-whole _ _ (length-units_k _ _ _) p.2 c.units_k.ensures)
     (over-whole _ _ (length-units_e _ _ _ _ _) p.3 c.units_e.ensures)
-    (sym (minimized_of-minimized _ _ _) ∙ c.solve_scaled-s.ensures)
+    c.solve_scaled-solved.ensures
     c.original.ensures
 
 pub overflow_add-v : goal.overflow_add-v
