@@ -30,7 +30,7 @@ abbrev pub in8 : ℤ → List ℕ
 in8 z = bytes 8 (code 9223372036854775808 z)
 
 -- the numbers of a list, one after the other
-unfoldable pub each : (f : ℤ → List ℕ) (numbers : List ℤ) → List ℕ
+unfoldable pub each : {A : Type 0} (f : A → List ℕ) (numbers : List A) → List ℕ
 each f [] = []
 each f (z ∷ zs) = f z ++ each f zs
 

@@ -1,5 +1,5 @@
 -- Bytes written over a part of a slice, one piece after the other.
-use Rattle.std.specs.Prelude.{◌≡◌, ℕ, zero, suc, ◌+◌, ◌*◌, ◌/◌, ◌%◌, ◌≤◌, ◌<◌, length, take, drop, get_or, set, ℤ, pos}
+use Rattle.std.specs.Prelude.{◌≡◌, ℕ, zero, suc, ◌+◌, ◌*◌, ◌/◌, ◌%◌, ◌≤◌, ◌<◌, length, take, drop, get_or, set, ℤ}
 use Rattle.std.proofs.Math.Path.{refl, sym, ap}
 use Rattle.std.proofs.Common.{◌∙◌, ap₂, not-suc-le-zero, le_of_suc-le-suc, le_refl, add-one, drop-drop, take_all, length-take-le}
 use mathlib.Core.List.{List, [], ◌∷◌, ◌++◌, append_assoc, append-nil}
@@ -95,38 +95,38 @@ unfolding pasted
 bytes_end o at k n j p q e = let z : j ≡ length (bytes k n) = omega (arith, length-bytes k n) in e ∙ ap (paste o at (bytes k n)) z
 
 -- ---- the numbers of a list
-module _ (f : ℤ → List ℕ) (k : ℕ) (wide : (z : ℤ) → length (f z) ≡ k) where
-  pub length-each : (x : List ℤ) → length (each f x) ≡ k * length x
+module _ {A : Type 0} (f : A → List ℕ) (k : ℕ) (wide : (z : A) → length (f z) ≡ k) where
+  pub length-each : (x : List A) → length (each f x) ≡ k * length x
   unfolding each
   length-each [] = omega arith
   length-each (z ∷ x) = length-append (f z) (each f x) ∙ omega (arith, wide z, length-each x, mul-suc k (length x))
 
-  each-append : (x y : List ℤ) → each f (x ++ y) ≡ each f x ++ each f y
+  each-append : (x y : List A) → each f (x ++ y) ≡ each f x ++ each f y
   unfolding each
   each-append [] y = refl
   each-append (z ∷ x) y = ap (λ (l : List ℕ). f z ++ l) (each-append x y) ∙ sym (append_assoc (f z) (each f x) (each f y))
 
   -- one more of them
-  each-next : (x : List ℤ) (i : ℕ) → i < length x → each f (take (i + 1) x) ≡ each f (take i x) ++ f (get_or x i (pos 0))
+  each-next : (x : List A) (i : ℕ) (d : A) → i < length x → each f (take (i + 1) x) ≡ each f (take i x) ++ f (get_or x i d)
   unfolding each
-  each-next x i h = rw (add-one i, take-suc x i (pos 0) h, each-append (take i x) (get_or x i (pos 0) ∷ []), append-nil)
+  each-next x i d h = rw (add-one i, take-suc x i d h, each-append (take i x) (get_or x i d ∷ []), append-nil)
 
   -- the loop that writes them: at its start, in a turn, in which b is written, and where it is left
-  pub each-none : (at : ℕ) (x : List ℤ) (o : List ℕ) → o ≡ pasted at (each f (take 0 x)) o
+  pub each-none : (at : ℕ) (x : List A) (o : List ℕ) → o ≡ pasted at (each f (take 0 x)) o
   unfolding each
   each-none at x o = pasted-none at o
 
-  pub each_turn : {b l l' : List ℕ} (at i : ℕ) (x : List ℤ) (o : List ℕ) → i < length x → at + k * i + k ≤ length o
-      → b ≡ f (get_or x i (pos 0)) → l ≡ pasted at (each f (take i x)) o → l' ≡ pasted (at + k * i) b l → l' ≡ pasted at (each f (take (i + 1) x)) o
-  each_turn at i x o h room p q e =
+  pub each_turn : {b l l' : List ℕ} (at i : ℕ) (x : List A) (d : A) (o : List ℕ) → i < length x → at + k * i + k ≤ length o
+      → b ≡ f (get_or x i d) → l ≡ pasted at (each f (take i x)) o → l' ≡ pasted (at + k * i) b l → l' ≡ pasted at (each f (take (i + 1) x)) o
+  each_turn at i x d o h room p q e =
       let n : length (each f (take i x)) ≡ k * i = length-each (take i x) ∙ ap (λ (m : ℕ). k * m) (length-take-le i x (omega arith)) in
       e
       ∙ ap₂ (pasted (at + k * i)) p q
-      ∙ pasted-append at (at + k * i) (each f (take i x)) (f (get_or x i (pos 0))) o (omega arith) (omega (arith, wide (get_or x i (pos 0))))
-      ∙ ap (λ (s : List ℕ). pasted at s o) (sym (each-next x i h))
+      ∙ pasted-append at (at + k * i) (each f (take i x)) (f (get_or x i d)) o (omega arith) (omega (arith, wide (get_or x i d)))
+      ∙ ap (λ (s : List ℕ). pasted at s o) (sym (each-next x i d h))
 
-  pub each_end : {l : List ℕ} (at i : ℕ) (x : List ℤ) (o : List ℕ) → length x ≤ i → l ≡ pasted at (each f (take i x)) o → l ≡ pasted at (each f x) o
-  each_end at i x o h e = e ∙ ap (λ (s : List ℤ). pasted at (each f s) o) (take_all i x h)
+  pub each_end : {l : List ℕ} (at i : ℕ) (x : List A) (o : List ℕ) → length x ≤ i → l ≡ pasted at (each f (take i x)) o → l ≡ pasted at (each f x) o
+  each_end at i x o h e = e ∙ ap (λ (s : List A). pasted at (each f s) o) (take_all i x h)
 
 -- ---- a field: its header, then its body
 pub length-field : (tag : ℕ) (b : List ℕ) → length (field tag b) ≡ 3 + length b

@@ -1,9 +1,9 @@
 // The answer file's writer. The file is specs/File.antt; that what is written is read back, specs/Back.antt.
 #![tactic(auto)]
 
-ghost use Rattle.std.specs.Prelude.{◌≡◌, ◌++◌, ◌+◌, ◌*◌, ◌≤◌, ◌<◌, leb, length};
+ghost use Rattle.std.specs.Prelude.{◌≡◌, ℕ, ◌++◌, ◌+◌, ◌*◌, ◌≤◌, ◌<◌, leb, length};
 ghost use Rattle.block.specs.Ranges.{max_words, max_anchors, max_spans};
-ghost use Rattle.answer.specs.File.{answer_of, bytes, code, in4, in8, each, field, file_size, Written};
+ghost use Rattle.answer.specs.File.{answer_of, bytes, code, each, field, file_size, Written};
 ghost use Rattle.answer.specs.Pasted.{pasted};
 
 // The tags, and the length of a field's header.
@@ -23,31 +23,36 @@ fn put(out: &mut [u8], at: usize, n: u64, k: usize)
     ensures { out.new ≡ pasted at (bytes k n) out.old }
 {
     let mut m = n;
-    for j in 0..k {
-        out[at + j] = (m % 256) as u8;
-        m = m / 256;
+    for b in out[at..at + k].iter_mut() {
+        *b = (m % 256) as u8;
+        m /= 256;
     }
 }
 
-// A time in two's complement, 32 bits of it.
-fn code4(t: i32) -> u64
-    ensures { result ≡ code 2147483648 t }
-{
-    let z = t as i64;
-    if z < 0 {
-        return (z + 4294967296) as u64;
-    }
-    z as u64
+// A signed number, in two's complement.
+trait Coded {
+    ghost code: { Self → ℕ };
+
+    fn code(&self) -> u64
+        ensures { result ≡ code self.now };
 }
 
-// A price or gap in two's complement, 64 bits of it.
-fn code8(z: i64) -> u64
-    ensures { result ≡ code 9223372036854775808 z }
-{
-    if z < 0 {
-        return 18446744073709551615 - ((-1 - z) as u64);
+// A time: 32 bits of it.
+impl Coded for i32 {
+    ghost code = { code 2147483648 };
+
+    fn code(&self) -> u64 {
+        u64::from(self.cast_unsigned())
     }
-    z as u64
+}
+
+// A price or gap: 64 bits of it.
+impl Coded for i64 {
+    ghost code = { code 9223372036854775808 };
+
+    fn code(&self) -> u64 {
+        self.cast_unsigned()
+    }
 }
 
 // A field's tag and the length of its body.
@@ -59,46 +64,24 @@ fn put_header(out: &mut [u8], at: usize, tag: u64, len: u64)
     put(out, at + 1, len, 2);
 }
 
-fn put_times(out: &mut [u8], at: usize, times: &[i32])
-    requires { at + 4 * length times.now ≤ length out.old }
-    ensures { out.new ≡ pasted at (each in4 times.now) out.old }
+// The numbers of a list, k bytes each.
+fn put_each<T: Coded>(out: &mut [u8], at: usize, numbers: &[T], k: usize)
+    requires { at + k * length numbers.now ≤ length out.old }
+    ensures { out.new ≡ pasted at (each (λ x. bytes k (T.code x)) numbers.now) out.old }
 {
-    let n = times.len();
-    for i in 0..n {
-        let t = times[i];
-        put(out, at + 4 * i, code4(t), 4);
+    for (i, x) in numbers.iter().enumerate() {
+        put(out, at + k * i, x.code(), k);
     }
 }
 
-fn put_prices(out: &mut [u8], at: usize, prices: &[i64])
-    requires { at + 8 * length prices.now ≤ length out.old }
-    ensures { out.new ≡ pasted at (each in8 prices.now) out.old }
+// A field of them.
+fn numbers_field<T: Coded>(out: &mut [u8], at: usize, tag: u64, numbers: &[T], k: usize)
+    requires { at + 3 + k * length numbers.now ≤ length out.old }
+    ensures { out.new ≡ pasted at (field tag (each (λ x. bytes k (T.code x)) numbers.now)) out.old }
 {
-    let n = prices.len();
-    for k in 0..n {
-        let p = prices[k];
-        put(out, at + 8 * k, code8(p), 8);
-    }
-}
-
-fn times_field(out: &mut [u8], at: usize, times: &[i32])
-    requires times_len_bound { length times.now ≤ 32 }
-    requires times_in_bounds { at + 3 + 4 * length times.now ≤ length out.old }
-    ensures { out.new ≡ pasted at (field 17 (each in4 times.now)) out.old }
-{
-    let n = 4 * times.len();
-    put_header(out, at, TIMES, n as u64);
-    put_times(out, at + HEADER, times);
-}
-
-fn prices_field(out: &mut [u8], at: usize, prices: &[i64])
-    requires prices_len_bound { length prices.now ≤ 25 }
-    requires prices_in_bounds { at + 3 + 8 * length prices.now ≤ length out.old }
-    ensures { out.new ≡ pasted at (field 18 (each in8 prices.now)) out.old }
-{
-    let n = 8 * prices.len();
-    put_header(out, at, PRICES, n as u64);
-    put_prices(out, at + HEADER, prices);
+    let n = k * numbers.len();
+    put_header(out, at, tag, n as u64);
+    put_each(out, at + HEADER, numbers, k);
 }
 
 // A field of one number of k bytes.
@@ -138,9 +121,9 @@ pub fn write(out: &mut [u8], times: &[i32], prices: &[i64], gap: i64, passes: u6
     }
     let at = 3 + 4 * t;
     let end = at + 3 + 8 * p;
-    times_field(out, 0, times);
-    prices_field(out, at, prices);
-    number_field(out, end, GAP, code8(gap), 8);
+    numbers_field(out, 0, TIMES, times, 4);
+    numbers_field(out, at, PRICES, prices, 8);
+    number_field(out, end, GAP, gap.code(), 8);
     number_field(out, end + 11, PASSES, passes, 2);
     0
 }

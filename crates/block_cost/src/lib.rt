@@ -15,7 +15,7 @@ fn plus_at(a: &mut [f64], k: usize, v: f64)
     requires { k < length a.old }
     ensures { a.new ≡ Cost.plus_at a.old k v }
 {
-    a[k] = a[k] + v;
+    a[k] += v;
 }
 
 // Row i of a tempo's products: w is weight × the coefficient of word i.
@@ -25,9 +25,7 @@ fn add_row(l: Pairs, n: usize, i: usize, w: f64, q: &mut [f64])
     requires i_lt_n { (i < n) × (n ≤ 32) × (length q.old ≡ n * n) }
     ensures { q.new ≡ Cost.add_row n (list_of l) i w q.old }
 {
-    let count = l.count;
-    for k in 0..count {
-        let p = l.pair[k];
+    for p in l.pairs() {
         let j = p.word as usize;
         plus_at(q, i + j * n, w * whole(p.coef));
     }
@@ -40,13 +38,10 @@ fn add_products(t: Tempo, n: usize, q: &mut [f64])
     requires n_bound { (n ≤ 32) × (length q.old ≡ n * n) }
     ensures { q.new ≡ Cost.add_products n (tempo_of t) q.old }
 {
-    let l = t.list;
-    let count = l.count;
     let weight = std::num::nearest_u64_to_f64(t.weight);
-    for k in 0..count {
-        let p = l.pair[k];
+    for p in t.list.pairs() {
         let i = p.word as usize;
-        add_row(l, n, i, weight * whole(p.coef), q);
+        add_row(t.list, n, i, weight * whole(p.coef), q);
     }
 }
 
@@ -58,11 +53,9 @@ pub fn hessian(b: Block, q: &mut [f64])
     ensures { q.new ≡ Cost.hessian (block_of b) }
 {
     let n = b.words;
-    let m = b.tempos;
     fill(q, n * n, 0.0);
-    for j in 0..m {
-        let t = b.tempo[j];
-        add_products(t, n, q);
+    for t in b.tempos() {
+        add_products(*t, n, q);
     }
 }
 
@@ -72,15 +65,11 @@ fn add_targets(t: Tempo, c: &mut [f64])
     requires ranged_tempo { RangedTempo (length c.old) (tempo_of t) }
     ensures { c.new ≡ Cost.add_targets (tempo_of t) c.old }
 {
-    let l = t.list;
-    let count = l.count;
     let weight = std::num::nearest_u64_to_f64(t.weight);
     let target = whole(t.target);
     let w = weight * target;
-    for k in 0..count {
-        let p = l.pair[k];
-        let i = p.word as usize;
-        plus_at(c, i, w * whole(p.coef));
+    for p in t.list.pairs() {
+        plus_at(c, p.word as usize, w * whole(p.coef));
     }
 }
 
@@ -91,11 +80,8 @@ pub fn linear(b: Block, c: &mut [f64])
     requires c_len { length c.old ≡ b.words }
     ensures { c.new ≡ Cost.linear (block_of b) }
 {
-    let n = b.words;
-    let m = b.tempos;
-    fill(c, n, 0.0);
-    for j in 0..m {
-        let t = b.tempo[j];
-        add_targets(t, c);
+    fill(c, b.words, 0.0);
+    for t in b.tempos() {
+        add_targets(*t, c);
     }
 }

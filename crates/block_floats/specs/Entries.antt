@@ -1,5 +1,5 @@
 -- What the loops over a block's fields and lists write, entry by entry.
-use Rattle.std.specs.Prelude.{◌≡◌, List, ℕ, ◌<◌, ◌≤◌, length, set, T, ℤ, pos, negsuc, Float}
+use Rattle.std.specs.Prelude.{◌≡◌, List, ℕ, ◌<◌, ◌≤◌, length, take, get_or, set, T, ℤ, pos, negsuc, Float}
 use Rattle.std.proofs.Math.Path.{refl}
 use Rattle.std.proofs.Common.{sym, ap, ◌∙◌, le_trans, le→leb, lt→ltb, lit≤, to_z, of_z}
 use Rattle.std.specs.Float.{nan, binary64}
@@ -14,11 +14,13 @@ use Rattle.vector.specs.Vector.{filled}
 use Rattle.vector.specs.Laws.{length-filled, filled-at}
 use Rattle.nearest.specs.Value.{fromℤ}
 use Rattle.block.specs.Block.{Item, item}
-use Rattle.block.specs.Ranges.{Short}
+use Rattle.block.specs.Ranges.{Short, RangedList}
 use Rattle.format.specs.Structs.{Filled, list_of, pair_at}
 use Rattle.format.specs.Entries.{item-is}
+use Rattle.format.specs.Lent.{Lent, lent-pairs}
+use Rattle.format.specs.declared.Pair.{Pair}
 use Rattle.format.specs.declared.Pairs.{Pairs}
-use Rattle.exact.specs.Entries.{pair-coef}
+use Rattle.exact.specs.Entries.{pair-coef, pair-word}
 
 -- a list that k stores filled, of which entry i of n is h i too
 pub filled_by : {A : Type 0} {s : List A} (o : List A) (k n m : ℕ) (g h : ℕ → A) → m ≡ n → ((i : ℕ) → i < n → g i ≡ h i) → k ≤ n → n ≤ k →
@@ -37,13 +39,27 @@ unfolding in_float
 in_float_lem (pos n) h = le→leb n _ (le_trans h.size (lit≤ tt))
 in_float_lem (negsuc n) h = lt→ltb n _ (le_trans h.size (lit≤ tt))
 
--- ---- pair k, as the code reads it
-module _ {l : Pairs} (F : Filled l) {k : ℕ} (h : k < l.count) where
-  pub word_of : (pair_at l k).word ≡ (item (list_of l) k).word
-  word_of = ap (λ (e : Item). e.word) (sym (item-is F h))
+-- ---- pair k, as the code reads it of the lent list
+module _ {l : Pairs} (F : Filled l) {ps : List Pair} (e : ps ≡ take l.count l.pair) {k : ℕ} (h : k < length ps) where
+  lent : Lent l.pair l.count ps
+  lent = lent-pairs F e
 
-  pub coef-read : Short (list_of l) → to_z w64 (of_z w64 (pair_at l k).coef) ≼ 8388608
-  coef-read s = loose (lit≤ tt) (read (cell w64 (pair-coef F h s) tt))
+  abbrev pair : Pair
+  pair = get_or ps k (record { word = 0; coef = pos 0 })
 
-  pub coef-of : Short (list_of l) → {r : Float} → r ≡ fromℤ (to_z w64 (of_z w64 (pair_at l k).coef)) → r ≡ fromℤ (item (list_of l) k).coef
-  coef-of S e = e ∙ ap fromℤ ((cell w64 (pair-coef F h S) tt).is ∙ ap (λ (e : Item). e.coef) (sym (item-is F h)))
+  pub pair-is : pair ≡ pair_at l k
+  pair-is = lent.at _ h
+
+  pub word_of : pair.word ≡ (item (list_of l) k).word
+  word_of = ap (λ (p : Pair). p.word) pair-is ∙ ap (λ (e : Item). e.word) (sym (item-is F (lent.within h)))
+
+  pub word-within : {n : ℕ} → RangedList n (list_of l) → pair.word < n
+  word-within R = rw pair-is (pair-word F (lent.within h) R)
+
+  pub coef-read : Short (list_of l) → to_z w64 (of_z w64 pair.coef) ≼ 8388608
+  coef-read S = rw pair-is (loose (lit≤ tt) (read (cell w64 (pair-coef F (lent.within h) S) tt)))
+
+  pub coef-of : Short (list_of l) → {r : Float} → r ≡ fromℤ (to_z w64 (of_z w64 pair.coef)) → r ≡ fromℤ (item (list_of l) k).coef
+  coef-of S q =
+      q ∙ ap (λ (p : Pair). fromℤ (to_z w64 (of_z w64 p.coef))) pair-is
+      ∙ ap fromℤ ((cell w64 (pair-coef F (lent.within h) S) tt).is ∙ ap (λ (e : Item). e.coef) (sym (item-is F (lent.within h))))

@@ -1,16 +1,14 @@
--- Which end of a span a loop takes, as the code names it.
-use Rattle.std.specs.Prelude.{ℕ, ℤ}
+-- Which end of a span a loop takes: what the calls of a closure give of each span, as the code holds it.
+use Rattle.std.specs.Prelude.{◌≡◌, ℕ, ℤ}
 use Rattle.ints.specs.Bound.{◌≼◌}
-use Rattle.block.specs.Block.{Span}
+use Rattle.block.specs.Block as Spec
 use Rattle.block.specs.Ranges.{RangedSpan}
-use Rattle.block_rows.specs.declared.SpanEnd.{SpanEnd}
-use Rattle.block_rows.specs.declared.SpanEnd.TheVariants as End
+use Rattle.format.specs.Structs.{span_of}
+use Rattle.format.specs.declared.Span.{Span}
 
-unfoldable pub end_of : SpanEnd → Span → ℤ
-end_of End.Lower s = s.lower
-end_of End.Upper s = s.upper
+abbrev pub Gives : (returns : Span → ℤ → Type 0) → (end : Spec.Span → ℤ) → Type 0
+Gives returns end = (s : Span) (z : ℤ) → returns s z → z ≡ end (span_of s)
 
-pub end_b : (which : SpanEnd) {n : ℕ} {s : Span} → RangedSpan n s → end_of which s ≼ 8388608
-unfolding end_of
-end_b End.Lower r = record { size = r.lower }
-end_b End.Upper r = record { size = r.upper }
+-- of a span in its ranges, a number in them
+abbrev pub GivesSmall : (n : ℕ) → (returns : Span → ℤ → Type 0) → Type 0
+GivesSmall n returns = (s : Span) (z : ℤ) → RangedSpan n (span_of s) → returns s z → z ≼ 8388608

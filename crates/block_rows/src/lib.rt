@@ -2,11 +2,13 @@
 // matrices are stored column after column.
 #![tactic(auto)]
 
-ghost use Rattle.std.specs.Prelude.{◌≡◌, ◌+◌, ◌*◌, ◌≤◌, length};
+ghost use Rattle.std.specs.Prelude.{◌≡◌, ◌+◌, ◌*◌, ◌≤◌, length, ℤ};
+ghost use Rattle.std.specs.Fn.{FnReturnsAt};
 ghost use Rattle.folds.specs.Part.{with_part};
+ghost use Rattle.block.specs.Block as Spec;
 ghost use Rattle.block.specs.Ranges.{Ranged, RangedList};
-ghost use Rattle.format.specs.Structs.{Filled, Sound, list_of, span_of, block_of};
-ghost use Rattle.block_rows.specs.Ends as Ends;
+ghost use Rattle.format.specs.Structs.{Filled, Sound, list_of, block_of};
+ghost use Rattle.block_rows.specs.Ends.{Gives, GivesSmall};
 ghost use Rattle.block_rows.specs.Rows as Rows;
 
 use block_floats::whole;
@@ -19,12 +21,9 @@ fn column(l: Pairs, y: &mut [f64])
     requires ranged_list { RangedList (length y.old) (list_of l) }
     ensures { y.new ≡ Rows.column (length y.old) (list_of l) }
 {
-    let count = l.count;
     fill(y, y.len(), 0.0);
-    for k in 0..count {
-        let p = l.pair[k];
-        let i = p.word as usize;
-        y[i] = whole(p.coef);
+    for p in l.pairs() {
+        y[p.word as usize] = whole(p.coef);
     }
 }
 
@@ -47,12 +46,8 @@ pub fn anchor_columns(b: Block, e: &mut [f64])
     requires e_len { length e.old ≡ b.words * b.anchors }
     ensures { e.new ≡ Rows.anchor_columns (block_of b) }
 {
-    let n = b.words;
-    let m = b.anchors;
-    for k in 0..m {
-        let a = b.anchor[k];
-        let l = a.list;
-        put_column(l, n, k, e);
+    for (k, a) in b.anchors().iter().enumerate() {
+        put_column(a.list, b.words, k, e);
     }
 }
 
@@ -62,56 +57,34 @@ pub fn anchor_values(b: Block, y: &mut [f64])
     requires y_len { length y.old ≡ b.anchors }
     ensures { y.new ≡ Rows.anchor_values (block_of b) }
 {
-    let m = b.anchors;
-    for k in 0..m {
-        let a = b.anchor[k];
+    for (k, a) in b.anchors().iter().enumerate() {
         y[k] = whole(a.value);
     }
 }
 
-// A column for each span: its row of A, transposed.
+// A column for each span: its row of A, transposed. Another type than the anchors: one function for both is no plainer.
 pub fn span_columns(b: Block, a: &mut [f64])
     requires sound { Sound b }
     requires ranged { Ranged (block_of b) }
     requires a_len { length a.old ≡ b.words * b.spans }
     ensures { a.new ≡ Rows.span_columns (block_of b) }
 {
-    let n = b.words;
-    let r = b.spans;
-    for k in 0..r {
-        let s = b.span[k];
-        let l = s.list;
-        put_column(l, n, k, a);
+    for (k, s) in b.spans().iter().enumerate() {
+        put_column(s.list, b.words, k, a);
     }
 }
 
-// An end of a span.
-#[derive(Clone, Copy)]
-enum SpanEnd {
-    Lower,
-    Upper,
-}
-
-fn end_of(s: Span, which: SpanEnd) -> i64
-    ensures { result ≡ Ends.end_of which (span_of s) }
-{
-    match which {
-        SpanEnd::Lower => s.lower,
-        SpanEnd::Upper => s.upper,
-    }
-}
-
-// That end of each span.
-fn each_span(b: Block, which: SpanEnd, y: &mut [f64])
+// An end of each span.
+fn each_span<F: Fn(&Span) -> i64>(b: Block, end: F, y: &mut [f64])
     requires sound { Sound b }
     requires ranged { Ranged (block_of b) }
     requires y_len { length y.old ≡ b.spans }
-    ensures { y.new ≡ Rows.each_span (Ends.end_of which) (block_of b) }
+    requires callable { F.IsAlwaysCallable end }
+    requires small { GivesSmall b.words (FnReturnsAt F.Fn end) }
+    ensures { (f : Spec.Span → ℤ) → Gives (FnReturnsAt F.Fn end) f → y.new ≡ Rows.each_span f (block_of b) }
 {
-    let r = b.spans;
-    for k in 0..r {
-        let s = b.span[k];
-        y[k] = whole(end_of(s, which));
+    for (k, s) in b.spans().iter().enumerate() {
+        y[k] = whole(end(s));
     }
 }
 
@@ -121,7 +94,7 @@ pub fn span_lowers(b: Block, y: &mut [f64])
     requires y_len { length y.old ≡ b.spans }
     ensures { y.new ≡ Rows.span_lowers (block_of b) }
 {
-    each_span(b, SpanEnd::Lower, y);
+    each_span(b, |s| s.lower, y);
 }
 
 pub fn span_uppers(b: Block, y: &mut [f64])
@@ -130,5 +103,5 @@ pub fn span_uppers(b: Block, y: &mut [f64])
     requires y_len { length y.old ≡ b.spans }
     ensures { y.new ≡ Rows.span_uppers (block_of b) }
 {
-    each_span(b, SpanEnd::Upper, y);
+    each_span(b, |s| s.upper, y);
 }

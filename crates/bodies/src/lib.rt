@@ -6,7 +6,7 @@ ghost use Rattle.block.specs.Ranges.{max_pairs};
 ghost use Rattle.format.specs.Read as Read;
 ghost use Rattle.format.specs.Structs.{word_of, pair_of, list_of, tempo_of, anchor_of, span_of, Filled};
 
-use format::{Anchor, Pair, Pairs, Span, Tempo, Verdict, Word};
+use format::{Anchor, Pair, Pairs, Refusal, Span, Tempo, Word};
 
 // The word number of pair i is above that of the pair before it.
 pub fn rises(b: &[u8], p: usize, i: usize) -> bool
@@ -19,40 +19,38 @@ pub fn rises(b: &[u8], p: usize, i: usize) -> bool
     numbers::byte_at(b, p + 2 * i - 1) < numbers::byte_at(b, p + 2 * i + 1)
 }
 
-pub fn pair_verdict(b: &[u8], p: usize, words: u64, i: usize) -> Verdict
+pub fn pair_verdict(b: &[u8], p: usize, words: u64, i: usize) -> Result<(), Refusal>
     requires { (p ≤ 8) × (i ≤ max_pairs) }
     ensures { result ≡ Read.pair_verdict b.now p words i }
 {
     if words <= numbers::byte_at(b, p + 2 * i + 1) {
-        return Verdict::BadList;
+        return Err(Refusal::BadList);
     }
-    if rises(b, p, i) {
-        let k = p + 2 * i + 2;
-        if numbers::i8_size_up_to(format::MAX_COEF, b, k) {
-            if numbers::i8_is_zero(b, k) {
-                return Verdict::OutOfRange;
-            }
-            return Verdict::Accepted;
-        }
-        return Verdict::OutOfRange;
+    if !rises(b, p, i) {
+        return Err(Refusal::BadList);
     }
-    Verdict::BadList
+    let k = p + 2 * i + 2;
+    if !numbers::i8_size_up_to(format::MAX_COEF, b, k) {
+        return Err(Refusal::OutOfRange);
+    }
+    if numbers::i8_is_zero(b, k) {
+        return Err(Refusal::OutOfRange);
+    }
+    Ok(())
 }
 
-pub fn list_verdict(b: &[u8], p: usize, words: u64, count: usize) -> Verdict
+pub fn list_verdict(b: &[u8], p: usize, words: u64, count: usize) -> Result<(), Refusal>
     requires { (p ≤ 8) × (count ≤ max_pairs) }
     ensures { result ≡ Read.list_verdict b.now p words count }
 {
-    if numbers::byte_at(b, p) != (count as u64) {
-        return Verdict::BadList;
+    if numbers::byte_at(b, p) != count as u64 {
+        return Err(Refusal::BadList);
     }
+    // By index: the pairs are bytes of the body, not a slice of pairs.
     for i in 0..count {
-        let v = pair_verdict(b, p, words, i);
-        if numbers::accepted(v) {} else {
-            return v;
-        }
+        pair_verdict(b, p, words, i)?;
     }
-    Verdict::Accepted
+    Ok(())
 }
 
 pub fn pair_from(b: &[u8], p: usize, i: usize) -> Pair
@@ -61,10 +59,7 @@ pub fn pair_from(b: &[u8], p: usize, i: usize) -> Pair
 {
     let word = numbers::byte_at(b, p + 2 * i + 1);
     let coef = numbers::i8_at(b, p + 2 * i + 2);
-    Pair {
-        word: word,
-        coef: coef,
-    }
+    Pair { word, coef }
 }
 
 pub fn list_from(b: &[u8], p: usize, count: usize) -> Pairs
@@ -76,35 +71,35 @@ pub fn list_from(b: &[u8], p: usize, count: usize) -> Pairs
     let p2 = pair_from(b, p, 2);
     let p3 = pair_from(b, p, 3);
     Pairs {
-        count: count,
+        count,
         pair: [p0, p1, p2, p3],
     }
 }
 
-pub fn word_verdict(b: &[u8]) -> Verdict
+pub fn word_verdict(b: &[u8]) -> Result<(), Refusal>
     ensures { result ≡ Read.word_verdict b.now }
 {
     let lower = numbers::u32_at(b, 0);
     if format::MAX_TIME < lower {
-        return Verdict::OutOfRange;
+        return Err(Refusal::OutOfRange);
     }
     let upper = numbers::u32_at(b, 4);
     if format::MAX_TIME < upper {
-        return Verdict::OutOfRange;
+        return Err(Refusal::OutOfRange);
     }
     if format::MAX_TIME < numbers::u32_at(b, 8) {
-        return Verdict::OutOfRange;
+        return Err(Refusal::OutOfRange);
     }
     if format::MAX_TIME < numbers::u32_at(b, 12) {
-        return Verdict::OutOfRange;
+        return Err(Refusal::OutOfRange);
     }
     if format::MAX_SLOPE < numbers::u32_at(b, 16) {
-        return Verdict::OutOfRange;
+        return Err(Refusal::OutOfRange);
     }
     if upper < lower {
-        return Verdict::CrossedBounds;
+        return Err(Refusal::CrossedBounds);
     }
-    Verdict::Accepted
+    Ok(())
 }
 
 pub fn word_from(b: &[u8]) -> Word
@@ -116,29 +111,29 @@ pub fn word_from(b: &[u8]) -> Word
     let start = numbers::u32_at(b, 12);
     let slope = numbers::u32_at(b, 16);
     Word {
-        lower: lower,
-        upper: upper,
-        key: key,
-        start: start,
-        slope: slope,
+        lower,
+        upper,
+        key,
+        start,
+        slope,
     }
 }
 
-pub fn tempo_verdict(b: &[u8], words: u64, count: usize) -> Verdict
+pub fn tempo_verdict(b: &[u8], words: u64, count: usize) -> Result<(), Refusal>
     requires { count ≤ max_pairs }
     ensures { result ≡ Read.tempo_verdict b.now words count }
 {
     let weight = numbers::u16_at(b, 0);
     if weight < 1 {
-        return Verdict::OutOfRange;
+        return Err(Refusal::OutOfRange);
     }
     if format::MAX_WEIGHT < weight {
-        return Verdict::OutOfRange;
+        return Err(Refusal::OutOfRange);
     }
-    if numbers::i32_size_up_to(format::MAX_SUM, b, 2) {
-        return list_verdict(b, 6, words, count);
+    if !numbers::i32_size_up_to(format::MAX_SUM, b, 2) {
+        return Err(Refusal::OutOfRange);
     }
-    Verdict::OutOfRange
+    list_verdict(b, 6, words, count)
 }
 
 pub fn tempo_from(b: &[u8], count: usize) -> Tempo
@@ -149,20 +144,20 @@ pub fn tempo_from(b: &[u8], count: usize) -> Tempo
     let target = numbers::i32_at(b, 2);
     let list = list_from(b, 6, count);
     Tempo {
-        weight: weight,
-        target: target,
-        list: list,
+        weight,
+        target,
+        list,
     }
 }
 
-pub fn anchor_verdict(b: &[u8], words: u64, count: usize) -> Verdict
+pub fn anchor_verdict(b: &[u8], words: u64, count: usize) -> Result<(), Refusal>
     requires { count ≤ max_pairs }
     ensures { result ≡ Read.anchor_verdict b.now words count }
 {
-    if numbers::i32_size_up_to(format::MAX_SUM, b, 0) {
-        return list_verdict(b, 4, words, count);
+    if !numbers::i32_size_up_to(format::MAX_SUM, b, 0) {
+        return Err(Refusal::OutOfRange);
     }
-    Verdict::OutOfRange
+    list_verdict(b, 4, words, count)
 }
 
 pub fn anchor_from(b: &[u8], count: usize) -> Anchor
@@ -171,30 +166,24 @@ pub fn anchor_from(b: &[u8], count: usize) -> Anchor
 {
     let value = numbers::i32_at(b, 0);
     let list = list_from(b, 4, count);
-    Anchor {
-        value: value,
-        list: list,
-    }
+    Anchor { value, list }
 }
 
-pub fn span_verdict(b: &[u8], words: u64, count: usize) -> Verdict
+pub fn span_verdict(b: &[u8], words: u64, count: usize) -> Result<(), Refusal>
     requires { count ≤ max_pairs }
     ensures { result ≡ Read.span_verdict b.now words count }
 {
-    if numbers::i32_size_up_to(format::MAX_SUM, b, 0) {
-        if numbers::i32_size_up_to(format::MAX_SUM, b, 4) {
-            let list = list_verdict(b, 8, words, count);
-            if numbers::accepted(list) {
-                if numbers::i32_le(b, 0, 4) {
-                    return Verdict::Accepted;
-                }
-                return Verdict::CrossedBounds;
-            }
-            return list;
-        }
-        return Verdict::OutOfRange;
+    if !numbers::i32_size_up_to(format::MAX_SUM, b, 0) {
+        return Err(Refusal::OutOfRange);
     }
-    Verdict::OutOfRange
+    if !numbers::i32_size_up_to(format::MAX_SUM, b, 4) {
+        return Err(Refusal::OutOfRange);
+    }
+    list_verdict(b, 8, words, count)?;
+    if !numbers::i32_le(b, 0, 4) {
+        return Err(Refusal::CrossedBounds);
+    }
+    Ok(())
 }
 
 pub fn span_from(b: &[u8], count: usize) -> Span
@@ -204,18 +193,14 @@ pub fn span_from(b: &[u8], count: usize) -> Span
     let lower = numbers::i32_at(b, 0);
     let upper = numbers::i32_at(b, 4);
     let list = list_from(b, 8, count);
-    Span {
-        lower: lower,
-        upper: upper,
-        list: list,
-    }
+    Span { lower, upper, list }
 }
 
-pub fn cap_verdict(b: &[u8]) -> Verdict
+pub fn cap_verdict(b: &[u8]) -> Result<(), Refusal>
     ensures { result ≡ Read.cap_verdict b.now }
 {
     if format::MAX_SUM < numbers::u32_at(b, 0) {
-        return Verdict::OutOfRange;
+        return Err(Refusal::OutOfRange);
     }
-    Verdict::Accepted
+    Ok(())
 }

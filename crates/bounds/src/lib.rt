@@ -9,7 +9,7 @@ ghost use Rattle.block.specs.Ranges.{Short, RangedAnchor, RangedSpan, RangedWord
 ghost use Rattle.format.specs.Structs.{Filled, word_of, list_of, anchor_of, span_of, block_of};
 ghost use Rattle.exact.specs.Planned.{Planned};
 
-use exact::{abs, list_sum, moves, time_at};
+use exact::{abs, list_sum, moves};
 use format::{Anchor, Block, Pair, Pairs, Span, Word};
 
 // An anchor's miss is |sum - value|.
@@ -19,8 +19,7 @@ pub fn anchor_miss(a: Anchor, times: &[i32]) -> i64
     requires timed { Timed (length times.now) times.now }
     ensures { result ≡ anchor_miss (anchor_of a) times.now }
 {
-    let l = a.list;
-    abs(list_sum(l, times) - a.value)
+    abs(list_sum(a.list, times) - a.value)
 }
 
 // How far s lies outside lower to upper, 0 within.
@@ -44,8 +43,7 @@ pub fn span_miss(s: Span, times: &[i32]) -> i64
     requires timed { Timed (length times.now) times.now }
     ensures { result ≡ span_miss (span_of s) times.now }
 {
-    let l = s.list;
-    outside(s.lower, s.upper, list_sum(l, times))
+    outside(s.lower, s.upper, list_sum(s.list, times))
 }
 
 // The sum of a list's coefficients' sizes.
@@ -54,10 +52,8 @@ fn coef_sizes(l: Pairs) -> i64
     requires short { Short (list_of l) }
     ensures { result ≡ coef_sizes (list_of l) }
 {
-    let mut sum: i64 = 0;
-    let n = l.count;
-    for k in 0..n {
-        let p = l.pair[k];
+    let mut sum = 0;
+    for p in l.pairs() {
         sum += abs(p.coef);
     }
     sum
@@ -89,10 +85,8 @@ fn windows_kept(b: Block, times: &[i32]) -> bool
     requires { Planned b times.now }
     ensures { result ≡ windows_kept (block_of b) times.now }
 {
-    let n = b.words;
-    for i in 0..n {
-        let w = b.word[i];
-        if window_kept(w, time_at(times, i)) {} else {
+    for (w, t) in b.words().iter().zip(times) {
+        if !window_kept(*w, i64::from(*t)) {
             return false;
         }
     }
@@ -112,26 +106,21 @@ fn anchors_bounded(b: Block, times: &[i32]) -> bool
     requires { Planned b times.now }
     ensures { result ≡ anchors_bounded (block_of b) times.now }
 {
-    let n = b.anchors;
-    for k in 0..n {
-        let a = b.anchor[k];
-        let l = a.list;
-        if miss_bounded(anchor_miss(a, times), l) {} else {
+    for a in b.anchors() {
+        if !miss_bounded(anchor_miss(*a, times), a.list) {
             return false;
         }
     }
     true
 }
 
+// As for the anchors; another type with another miss: one function for both is no plainer.
 fn spans_bounded(b: Block, times: &[i32]) -> bool
     requires { Planned b times.now }
     ensures { result ≡ spans_bounded (block_of b) times.now }
 {
-    let n = b.spans;
-    for k in 0..n {
-        let s = b.span[k];
-        let l = s.list;
-        if miss_bounded(span_miss(s, times), l) {} else {
+    for s in b.spans() {
+        if !miss_bounded(span_miss(*s, times), s.list) {
             return false;
         }
     }
@@ -144,13 +133,13 @@ pub fn bounded(b: Block, times: &[i32]) -> bool
     requires { Planned b times.now }
     ensures { result ≡ bounded (block_of b) times.now }
 {
-    if windows_kept(b, times) {} else {
+    if !windows_kept(b, times) {
         return false;
     }
-    if moves_bounded(b, times) {} else {
+    if !moves_bounded(b, times) {
         return false;
     }
-    if anchors_bounded(b, times) {} else {
+    if !anchors_bounded(b, times) {
         return false;
     }
     spans_bounded(b, times)

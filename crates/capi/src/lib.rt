@@ -21,7 +21,13 @@ pub extern "C" fn places_place(block: &[u8], answer: &mut [u8], written: &mut u6
     ensures { Service.Answered block.now answer.old written.old result answer.new
         written.new }
 {
-    service::place(block, answer, written)
+    match service::place(block, answer) {
+        Ok(n) => {
+            *written = n as u64;
+            0
+        }
+        Err(r) => u32::from(r),
+    }
 }
 
 // The gap of anyone's plan (a time for each word) and prices (anchors, spans, cap).
@@ -29,7 +35,13 @@ pub extern "C" fn places_place(block: &[u8], answer: &mut [u8], written: &mut u6
 pub extern "C" fn places_check(block: &[u8], times: &[i32], prices: &[i64], gap: &mut i64) -> u32
     ensures { Answered block.now times.now prices.now gap.old result gap.new }
 {
-    plan_check::check(block, times, prices, gap)
+    match plan_check::check(block, times, prices) {
+        Ok(z) => {
+            *gap = z;
+            0
+        }
+        Err(refusal) => u32::from(refusal),
+    }
 }
 
 // IEEE 754's square root.

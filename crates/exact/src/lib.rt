@@ -18,7 +18,7 @@ pub fn time_at(times: &[i32], i: usize) -> i64
     requires { i < length times.now }
     ensures { result ≡ time times.now i }
 {
-    times[i] as i64
+    i64::from(times[i])
 }
 
 // |z|
@@ -26,7 +26,7 @@ pub fn abs(z: i64) -> i64
     requires { z ≼ 9223372036854775807 }
     ensures { result ≡ abs z }
 {
-    if z < 0 { -z } else { z }
+    z.abs()
 }
 
 // A list's sum is coefficients times times.
@@ -36,12 +36,9 @@ pub fn list_sum(l: Pairs, times: &[i32]) -> i64
     requires timed { Timed (length times.now) times.now }
     ensures { result ≡ sum_of (list_of l) times.now }
 {
-    let mut sum: i64 = 0;
-    let n = l.count;
-    for k in 0..n {
-        let p = l.pair[k];
-        let i = p.word as usize;
-        sum += p.coef * time_at(times, i);
+    let mut sum = 0;
+    for p in l.pairs() {
+        sum += p.coef * time_at(times, p.word as usize);
     }
     sum
 }
@@ -60,11 +57,9 @@ pub fn coef_of(i: usize, l: Pairs) -> i64
     requires short { Short (list_of l) }
     ensures { result ≡ coef_of i (list_of l) }
 {
-    let mut sum: i64 = 0;
-    let n = l.count;
-    for k in 0..n {
-        let p = l.pair[k];
-        sum += coef_at(i, p);
+    let mut sum = 0;
+    for p in l.pairs() {
+        sum += coef_at(i, *p);
     }
     sum
 }
@@ -94,8 +89,7 @@ fn off(t: Tempo, times: &[i32]) -> i64
     requires timed { Timed (length times.now) times.now }
     ensures { result ≡ off (tempo_of t) times.now }
 {
-    let l = t.list;
-    list_sum(l, times) - t.target
+    list_sum(t.list, times) - t.target
 }
 
 // weight × (sum - target)²
@@ -116,8 +110,7 @@ pub fn slope_of(t: Tempo, times: &[i32], i: usize) -> i64
     requires timed { Timed (length times.now) times.now }
     ensures { result ≡ slope_of (tempo_of t) times.now i }
 {
-    let l = t.list;
-    (t.weight as i64) * off(t, times) * coef_of(i, l)
+    (t.weight as i64) * off(t, times) * coef_of(i, t.list)
 }
 
 // All moves added up.
@@ -125,25 +118,21 @@ pub fn moves(b: Block, times: &[i32]) -> i64
     requires { Planned b times.now }
     ensures { result ≡ moves (block_of b) times.now }
 {
-    let mut sum: i64 = 0;
-    let n = b.words;
-    for i in 0..n {
-        let w = b.word[i];
-        sum += move_of(w, time_at(times, i));
+    let mut sum = 0;
+    for (w, t) in b.words().iter().zip(times) {
+        sum += move_of(*w, i64::from(*t));
     }
     sum
 }
 
-// The words' part of the cost, halved.
+// The words' part of the cost, halved. A loop beside `moves`: another bound keeps this sum in 64 bits.
 fn bends(b: Block, times: &[i32]) -> i64
     requires { Planned b times.now }
     ensures { result ≡ bends (block_of b) times.now }
 {
-    let mut sum: i64 = 0;
-    let n = b.words;
-    for i in 0..n {
-        let w = b.word[i];
-        sum += bend(w, time_at(times, i));
+    let mut sum = 0;
+    for (w, t) in b.words().iter().zip(times) {
+        sum += bend(*w, i64::from(*t));
     }
     sum
 }
@@ -153,11 +142,9 @@ fn squares(b: Block, times: &[i32]) -> i64
     requires { Planned b times.now }
     ensures { result ≡ squares (block_of b) times.now }
 {
-    let mut sum: i64 = 0;
-    let n = b.tempos;
-    for j in 0..n {
-        let t = b.tempo[j];
-        sum += square_of(t, times);
+    let mut sum = 0;
+    for t in b.tempos() {
+        sum += square_of(*t, times);
     }
     sum
 }

@@ -5,7 +5,7 @@ ghost use Rattle.std.specs.Prelude.{◌≡◌, ◌≤◌};
 ghost use Rattle.block.specs.Ranges.{max_pairs};
 ghost use Rattle.format.specs.Read as Read;
 
-use format::{Counts, Verdict};
+use format::{Counts, Refusal};
 
 // The count of the list in a body of n bytes, `fixed` of which stand before its pairs; 0 where none fits.
 pub fn pairs_in(fixed: u64, n: u64) -> usize
@@ -31,25 +31,13 @@ pub fn pairs_in(fixed: u64, n: u64) -> usize
 pub fn count(t: u64, n: u64) -> usize
     ensures { (result ≡ Read.count t n) × (result ≤ max_pairs) }
 {
-    if t == format::WORD {
-        if n == 20 {
-            return 1;
-        }
-        return 0;
+    match t {
+        format::WORD => usize::from(n == 20),
+        format::TEMPO => pairs_in(7, n),
+        format::ANCHOR => pairs_in(5, n),
+        format::SPAN => pairs_in(9, n),
+        _ => usize::from(n == 4),
     }
-    if t == format::TEMPO {
-        return pairs_in(7, n);
-    }
-    if t == format::ANCHOR {
-        return pairs_in(5, n);
-    }
-    if t == format::SPAN {
-        return pairs_in(9, n);
-    }
-    if n == 4 {
-        return 1;
-    }
-    0
 }
 
 // The count of the field that r begins with.
@@ -62,84 +50,68 @@ pub fn count_of(r: &[u8]) -> usize
 pub fn has_room(t: u64, so: Counts) -> bool
     ensures { result ≡ Read.has_room t so }
 {
-    if t == format::WORD {
-        return so.words < format::MAX_WORDS;
+    match t {
+        format::WORD => so.words < format::MAX_WORDS,
+        format::TEMPO => so.tempos < format::MAX_TEMPOS,
+        format::ANCHOR => so.anchors < format::MAX_ANCHORS,
+        format::SPAN => so.spans < format::MAX_SPANS,
+        _ => true,
     }
-    if t == format::TEMPO {
-        return so.tempos < format::MAX_TEMPOS;
-    }
-    if t == format::ANCHOR {
-        return so.anchors < format::MAX_ANCHORS;
-    }
-    if t == format::SPAN {
-        return so.spans < format::MAX_SPANS;
-    }
-    true
 }
 
-// The verdict on the header of the field that r begins with.
-pub fn head_verdict(r: &[u8], last: u64, so: Counts) -> Verdict
+// The verdict on the header of the field that r begins with. A tag stays a number: it is put in order with the one before, 0 before the first.
+pub fn head_verdict(r: &[u8], last: u64, so: Counts) -> Result<(), Refusal>
     ensures { result ≡ Read.head_verdict r.now last so }
 {
     if r.len() < 3 {
-        return Verdict::BadLength;
+        return Err(Refusal::BadLength);
     }
     let t = numbers::byte_at(r, 0);
     if t < 1 {
-        return Verdict::UnknownTag;
+        return Err(Refusal::UnknownTag);
     }
     if format::CAP < t {
-        return Verdict::UnknownTag;
+        return Err(Refusal::UnknownTag);
     }
     if format::CAP <= last {
-        return Verdict::OutOfOrder;
+        return Err(Refusal::OutOfOrder);
     }
     if t < last {
-        return Verdict::OutOfOrder;
+        return Err(Refusal::OutOfOrder);
     }
-    if has_room(t, so) {
-        if count_of(r) < 1 {
-            return Verdict::BadLength;
-        }
-        if ((r.len() - 3) as u64) < numbers::u16_at(r, 1) {
-            return Verdict::BadLength;
-        }
-        return Verdict::Accepted;
+    if !has_room(t, so) {
+        return Err(Refusal::TooMany);
     }
-    Verdict::TooMany
+    if count_of(r) < 1 {
+        return Err(Refusal::BadLength);
+    }
+    if ((r.len() - 3) as u64) < numbers::u16_at(r, 1) {
+        return Err(Refusal::BadLength);
+    }
+    Ok(())
 }
 
-pub fn body_verdict(t: u64, b: &[u8], words: u64, n: usize) -> Verdict
+pub fn body_verdict(t: u64, b: &[u8], words: u64, n: usize) -> Result<(), Refusal>
     requires { n ≤ max_pairs }
     ensures { result ≡ Read.body_verdict t b.now words n }
 {
-    if t == format::WORD {
-        return bodies::word_verdict(b);
+    match t {
+        format::WORD => bodies::word_verdict(b),
+        format::TEMPO => bodies::tempo_verdict(b, words, n),
+        format::ANCHOR => bodies::anchor_verdict(b, words, n),
+        format::SPAN => bodies::span_verdict(b, words, n),
+        _ => bodies::cap_verdict(b),
     }
-    if t == format::TEMPO {
-        return bodies::tempo_verdict(b, words, n);
-    }
-    if t == format::ANCHOR {
-        return bodies::anchor_verdict(b, words, n);
-    }
-    if t == format::SPAN {
-        return bodies::span_verdict(b, words, n);
-    }
-    bodies::cap_verdict(b)
 }
 
 // The verdict on the field that r begins with.
-pub fn field_verdict(r: &[u8], last: u64, so: Counts) -> Verdict
+pub fn field_verdict(r: &[u8], last: u64, so: Counts) -> Result<(), Refusal>
     ensures { result ≡ Read.field_verdict r.now last so }
 {
-    let v = head_verdict(r, last, so);
-    if numbers::accepted(v) {
-        let t = numbers::byte_at(r, 0);
-        let k = count_of(r);
-        let words = so.words as u64;
-        let e = 3 + (numbers::u16_at(r, 1) as usize);
-        let b = &r[3..e];
-        return body_verdict(t, b, words, k);
-    }
-    v
+    head_verdict(r, last, so)?;
+    let t = numbers::byte_at(r, 0);
+    let k = count_of(r);
+    let words = so.words as u64;
+    let e = 3 + (numbers::u16_at(r, 1) as usize);
+    body_verdict(t, &r[3..e], words, k)
 }

@@ -1,30 +1,16 @@
 -- Each definition that the code computes, by its right side: what equals the one equals the other.
-use Rattle.std.specs.Prelude.{◌≡◌, refl, Bool, true, false, not, List, ℕ, ◌+◌, ◌*◌, ◌-◌, ltb, leb, eqb, length, ℤ, pos, neg_ℤ}
+use Rattle.std.specs.Prelude.{◌≡◌, refl, Bool, true, false, not, List, ℕ, ◌+◌, ◌*◌, ◌-◌, ltb, leb, eqb, length, ℤ, pos, neg_ℤ, Err}
 use Rattle.std.specs.Int.Signed.{le_z}
 use Rattle.folds.specs.Fold.{pick, both}
 use Rattle.block.specs.Block.{Block}
 use Rattle.block.specs.Ranges.{max_words, max_tempos, max_anchors, max_spans, max_time, max_slope, max_weight, max_coef, max_sum}
-use Rattle.format.specs.Read.{number, accepted, need, after, byte_at, u16_at, u32_at, signed, i8_at, i32_at, tag, len, body}
+use Rattle.format.specs.Read.{Verdict, Accepted, need, after, byte_at, u16_at, u32_at, signed, i8_at, i32_at, tag, len, body}
 use Rattle.format.specs.Read.{up_to, one_to, size_up_to, is_zero, in_order, word_tag, tempo_tag, anchor_tag, span_tag, cap_tag}
 use Rattle.format.specs.Read.{rises, pair_verdict, first_of, list_verdict, word_verdict, tempo_verdict, anchor_verdict, span_verdict, cap_verdict}
 use Rattle.format.specs.Read.{pairs_in, count, count_of, has_room, head_verdict, body_verdict, field_verdict, end_verdict}
 use Rattle.format.specs.Read.{word_from, tempo_from, anchor_from, span_from, with_word, with_tempo, with_anchor, with_span, with_cap, with_body}
 use Rattle.format.specs.declared.Counts.{Counts}
-use Rattle.format.specs.declared.Verdict.{Verdict}
-use Rattle.format.specs.declared.Verdict.TheVariants.{Accepted, BadLength, UnknownTag, OutOfOrder, TooMany, OutOfRange, CrossedBounds, BadList}
-
--- ---- verdicts
-pub number-each :
-    (number Accepted ≡ 0) × (number BadLength ≡ 1) × (number UnknownTag ≡ 2) × (number OutOfOrder ≡ 3)
-    × (number TooMany ≡ 4) × (number OutOfRange ≡ 5) × (number CrossedBounds ≡ 6) × (number BadList ≡ 7)
-unfolding number
-number-each = (refl, refl, refl, refl, refl, refl, refl, refl)
-
-pub accepted-each :
-    (accepted Accepted ≡ true) × (accepted BadLength ≡ false) × (accepted UnknownTag ≡ false) × (accepted OutOfOrder ≡ false)
-    × (accepted TooMany ≡ false) × (accepted OutOfRange ≡ false) × (accepted CrossedBounds ≡ false) × (accepted BadList ≡ false)
-unfolding accepted
-accepted-each = (refl, refl, refl, refl, refl, refl, refl, refl)
+use Rattle.format.specs.declared.Refusal.TheVariants.{BadLength, UnknownTag, OutOfOrder, TooMany, OutOfRange, CrossedBounds, BadList}
 
 -- ---- numbers
 module _ (s : List ℕ) (i : ℕ) where
@@ -59,55 +45,55 @@ module _ (b : List ℕ) (p : ℕ) where
   rises_by i e = e
 
   pub pair_verdict_by : {v : Verdict} (words i : ℕ)
-      → v ≡ need (ltb (byte_at b (p + 2 * i + 1)) words) BadList
-      (need (rises b p i) BadList
-      (need (size_up_to max_coef (i8_at b (p + 2 * i + 2))) OutOfRange
-      (need (not (is_zero (i8_at b (p + 2 * i + 2)))) OutOfRange
+      → v ≡ need (ltb (byte_at b (p + 2 * i + 1)) words) (Err BadList)
+      (need (rises b p i) (Err BadList)
+      (need (size_up_to max_coef (i8_at b (p + 2 * i + 2))) (Err OutOfRange)
+      (need (not (is_zero (i8_at b (p + 2 * i + 2)))) (Err OutOfRange)
       Accepted)))
       → v ≡ pair_verdict b p words i
   unfolding pair_verdict
   pair_verdict_by words i e = e
 
-  pub list_verdict_by : {v : Verdict} (words n : ℕ) → v ≡ need (eqb (byte_at b p) n) BadList (first_of n (pair_verdict b p words))
+  pub list_verdict_by : {v : Verdict} (words n : ℕ) → v ≡ need (eqb (byte_at b p) n) (Err BadList) (first_of n (pair_verdict b p words))
       → v ≡ list_verdict b p words n
   unfolding list_verdict
   list_verdict_by words n e = e
 
 module _ {v : Verdict} (b : List ℕ) where
   pub word_verdict_by :
-      v ≡ need (up_to max_time (u32_at b 0)) OutOfRange
-      (need (up_to max_time (u32_at b 4)) OutOfRange
-      (need (up_to max_time (u32_at b 8)) OutOfRange
-      (need (up_to max_time (u32_at b 12)) OutOfRange
-      (need (up_to max_slope (u32_at b 16)) OutOfRange
-      (need (leb (u32_at b 0) (u32_at b 4)) CrossedBounds
+      v ≡ need (up_to max_time (u32_at b 0)) (Err OutOfRange)
+      (need (up_to max_time (u32_at b 4)) (Err OutOfRange)
+      (need (up_to max_time (u32_at b 8)) (Err OutOfRange)
+      (need (up_to max_time (u32_at b 12)) (Err OutOfRange)
+      (need (up_to max_slope (u32_at b 16)) (Err OutOfRange)
+      (need (leb (u32_at b 0) (u32_at b 4)) (Err CrossedBounds)
       Accepted)))))
       → v ≡ word_verdict b
   unfolding word_verdict
   word_verdict_by e = e
 
-  pub cap_verdict_by : v ≡ need (up_to max_sum (u32_at b 0)) OutOfRange Accepted → v ≡ cap_verdict b
+  pub cap_verdict_by : v ≡ need (up_to max_sum (u32_at b 0)) (Err OutOfRange) Accepted → v ≡ cap_verdict b
   unfolding cap_verdict
   cap_verdict_by e = e
 
   module _ (words n : ℕ) where
     pub tempo_verdict_by :
-        v ≡ need (one_to max_weight (u16_at b 0)) OutOfRange
-        (need (size_up_to max_sum (i32_at b 2)) OutOfRange
+        v ≡ need (one_to max_weight (u16_at b 0)) (Err OutOfRange)
+        (need (size_up_to max_sum (i32_at b 2)) (Err OutOfRange)
         (list_verdict b 6 words n))
         → v ≡ tempo_verdict b words n
     unfolding tempo_verdict
     tempo_verdict_by e = e
 
-    pub anchor_verdict_by : v ≡ need (size_up_to max_sum (i32_at b 0)) OutOfRange (list_verdict b 4 words n) → v ≡ anchor_verdict b words n
+    pub anchor_verdict_by : v ≡ need (size_up_to max_sum (i32_at b 0)) (Err OutOfRange) (list_verdict b 4 words n) → v ≡ anchor_verdict b words n
     unfolding anchor_verdict
     anchor_verdict_by e = e
 
     pub span_verdict_by :
-        v ≡ need (size_up_to max_sum (i32_at b 0)) OutOfRange
-        (need (size_up_to max_sum (i32_at b 4)) OutOfRange
+        v ≡ need (size_up_to max_sum (i32_at b 0)) (Err OutOfRange)
+        (need (size_up_to max_sum (i32_at b 4)) (Err OutOfRange)
         (after (list_verdict b 8 words n)
-        (need (le_z (i32_at b 0) (i32_at b 4)) CrossedBounds
+        (need (le_z (i32_at b 0) (i32_at b 4)) (Err CrossedBounds)
         Accepted)))
         → v ≡ span_verdict b words n
     unfolding span_verdict
@@ -152,12 +138,12 @@ has_room_by t so e = e
 
 module _ {v : Verdict} (r : List ℕ) (last : ℕ) (so : Counts) where
   pub head_verdict_by :
-      v ≡ need (leb 3 (length r)) BadLength
-      (need (one_to cap_tag (tag r)) UnknownTag
-      (need (in_order last (tag r)) OutOfOrder
-      (need (has_room (tag r) so) TooMany
-      (need (leb 1 (count_of r)) BadLength
-      (need (leb (len r) (length r - 3)) BadLength
+      v ≡ need (leb 3 (length r)) (Err BadLength)
+      (need (one_to cap_tag (tag r)) (Err UnknownTag)
+      (need (in_order last (tag r)) (Err OutOfOrder)
+      (need (has_room (tag r) so) (Err TooMany)
+      (need (leb 1 (count_of r)) (Err BadLength)
+      (need (leb (len r) (length r - 3)) (Err BadLength)
       Accepted)))))
       → v ≡ head_verdict r last so
   unfolding head_verdict
@@ -178,7 +164,7 @@ pub with_body_by : {q : Block} (t : ℕ) (b : List ℕ) (n : ℕ) (k : Block)
 unfolding with_body
 with_body_by t b n k e = e
 
-pub end_verdict_by : {v : Verdict} (last words : ℕ) → v ≡ need (leb 1 words) OutOfOrder (need (eqb last cap_tag) OutOfOrder Accepted)
+pub end_verdict_by : {v : Verdict} (last words : ℕ) → v ≡ need (leb 1 words) (Err OutOfOrder) (need (eqb last cap_tag) (Err OutOfOrder) Accepted)
     → v ≡ end_verdict last words
 unfolding end_verdict
 end_verdict_by last words e = e

@@ -1,5 +1,5 @@
 -- A block that was read is in its ranges: `read s ≡ block b → Ranged b`.
-use Rattle.std.specs.Prelude.{◌≡◌, Bool, not, List, [], ◌∷◌, ◌++◌, leb, ltb, eqb, length, get_or, drop, ℤ, pos, negsuc, neg_ℤ, nat_abs}
+use Rattle.std.specs.Prelude.{◌≡◌, Bool, not, List, [], ◌∷◌, ◌++◌, leb, ltb, eqb, length, get_or, drop, ℤ, pos, negsuc, neg_ℤ, nat_abs, Err}
 use Rattle.std.proofs.Math.Path.{refl}
 use Rattle.std.proofs.Common.{sym, ◌∙◌, subst, ⊎_elim, not-suc-le-zero, lt_of_lt_of_le, eq-or-lt_of_le, length-append}
 use Rattle.std.proofs.Math.Bool.{true, false}
@@ -22,9 +22,7 @@ use Rattle.format.specs.Read.{with_word, with_tempo, with_anchor, with_span, wit
 use Rattle.format.specs.Read.{Outcome, block, refused, outcome, number, counts, fields, empty, read}
 use Rattle.format.specs.Laws.{need-held, after-held, first-each}
 use Rattle.format.specs.Whole.{whole}
-use Rattle.format.specs.Structs.{block_of, read_of}
-use Rattle.format.specs.declared.Reading.{Reading}
-use Rattle.format.specs.declared.Verdict.TheVariants.{OutOfOrder, OutOfRange, CrossedBounds, BadList}
+use Rattle.format.specs.declared.Refusal.TheVariants.{OutOfOrder, OutOfRange, CrossedBounds, BadList}
 
 -- ---- numbers
 size-up_to : (most : ℕ) (z : ℤ) → size_up_to most z ≡ true → nat_abs z ≤ most
@@ -52,10 +50,10 @@ module _ (b : List ℕ) (p words : ℕ) where
   pair-ranged : (i : ℕ) → accepted (pair_verdict b p words i) ≡ true → RangedPair b p words i
   unfolding pair_verdict accepted
   pair-ranged i e =
-      let a = need-held (ltb (byte_at b (p + 2 * i + 1)) words) BadList _ refl e in
-      let c = need-held (rises b p i) BadList _ refl a.1 in
-      let d = need-held (size_up_to max_coef (i8_at b (p + 2 * i + 2))) OutOfRange _ refl c.1 in
-      let z = need-held (not (is_zero (i8_at b (p + 2 * i + 2)))) OutOfRange _ refl d.1 in
+      let a = need-held (ltb (byte_at b (p + 2 * i + 1)) words) (Err BadList) _ refl e in
+      let c = need-held (rises b p i) (Err BadList) _ refl a.1 in
+      let d = need-held (size_up_to max_coef (i8_at b (p + 2 * i + 2))) (Err OutOfRange) _ refl c.1 in
+      let z = need-held (not (is_zero (i8_at b (p + 2 * i + 2)))) (Err OutOfRange) _ refl d.1 in
       record { named = ltb-true _ _ a.0; above = c.0; small = size-up_to max_coef _ d.0; not_zero = zero-is _ z.0 }
 
   pair-rising : (k : ℕ) → rises b p (k + 1) ≡ true → (pair_from b p k).word < (pair_from b p (k + 1)).word
@@ -86,7 +84,7 @@ module _ (b : List ℕ) (p words : ℕ) where
   list-ranged : (n : ℕ) → 1 ≤ n → n ≤ max_pairs → accepted (list_verdict b p words n) ≡ true → RangedList words (list_from b p n)
   unfolding list_verdict accepted
   list-ranged n f l e =
-      let a = need-held (eqb (byte_at b p) n) BadList _ refl e in
+      let a = need-held (eqb (byte_at b p) n) (Err BadList) _ refl e in
       let s = length-is n l in
       let pair : (k : ℕ) → k < n → RangedPair b p words k = λ k h. pair-ranged k (first-each (pair_verdict b p words) n a.1 k h) in
       record {
@@ -123,12 +121,12 @@ span_grows h r = record { lower = r.lower; upper = r.upper; list = list_grows h 
 word-ranged : (b : List ℕ) → accepted (word_verdict b) ≡ true → RangedWord (word_from b)
 unfolding word_verdict accepted
 word-ranged b e =
-    let p = need-held (up_to max_time (u32_at b 0)) OutOfRange _ refl e in
-    let q = need-held (up_to max_time (u32_at b 4)) OutOfRange _ refl p.1 in
-    let r = need-held (up_to max_time (u32_at b 8)) OutOfRange _ refl q.1 in
-    let s = need-held (up_to max_time (u32_at b 12)) OutOfRange _ refl r.1 in
-    let t = need-held (up_to max_slope (u32_at b 16)) OutOfRange _ refl s.1 in
-    let u = need-held (leb (u32_at b 0) (u32_at b 4)) CrossedBounds _ refl t.1 in
+    let p = need-held (up_to max_time (u32_at b 0)) (Err OutOfRange) _ refl e in
+    let q = need-held (up_to max_time (u32_at b 4)) (Err OutOfRange) _ refl p.1 in
+    let r = need-held (up_to max_time (u32_at b 8)) (Err OutOfRange) _ refl q.1 in
+    let s = need-held (up_to max_time (u32_at b 12)) (Err OutOfRange) _ refl r.1 in
+    let t = need-held (up_to max_slope (u32_at b 16)) (Err OutOfRange) _ refl s.1 in
+    let u = need-held (leb (u32_at b 0) (u32_at b 4)) (Err CrossedBounds) _ refl t.1 in
     record {
       lower = leb-true _ _ p.0;
       upper = leb-true _ _ q.0;
@@ -142,8 +140,8 @@ module _ (b : List ℕ) (words n : ℕ) (f : 1 ≤ n) (l : n ≤ max_pairs) wher
   tempo-ranged : accepted (tempo_verdict b words n) ≡ true → RangedTempo words (tempo_from b n)
   unfolding tempo_verdict accepted
   tempo-ranged e =
-      let p = need-held (one_to max_weight (u16_at b 0)) OutOfRange _ refl e in
-      let q = need-held (size_up_to max_sum (i32_at b 2)) OutOfRange _ refl p.1 in
+      let p = need-held (one_to max_weight (u16_at b 0)) (Err OutOfRange) _ refl e in
+      let q = need-held (size_up_to max_sum (i32_at b 2)) (Err OutOfRange) _ refl p.1 in
       let w = both_true _ _ p.0 in
       record {
         some_weight = leb-true _ _ w.0;
@@ -155,16 +153,16 @@ module _ (b : List ℕ) (words n : ℕ) (f : 1 ≤ n) (l : n ≤ max_pairs) wher
   anchor-ranged : accepted (anchor_verdict b words n) ≡ true → RangedAnchor words (anchor_from b n)
   unfolding anchor_verdict accepted
   anchor-ranged e =
-      let p = need-held (size_up_to max_sum (i32_at b 0)) OutOfRange _ refl e in
+      let p = need-held (size_up_to max_sum (i32_at b 0)) (Err OutOfRange) _ refl e in
       record { value = size-up_to max_sum _ p.0; list = list-ranged b 4 words n f l p.1 }
 
   span-ranged : accepted (span_verdict b words n) ≡ true → RangedSpan words (span_from b n)
   unfolding span_verdict accepted
   span-ranged e =
-      let p = need-held (size_up_to max_sum (i32_at b 0)) OutOfRange _ refl e in
-      let q = need-held (size_up_to max_sum (i32_at b 4)) OutOfRange _ refl p.1 in
+      let p = need-held (size_up_to max_sum (i32_at b 0)) (Err OutOfRange) _ refl e in
+      let q = need-held (size_up_to max_sum (i32_at b 4)) (Err OutOfRange) _ refl p.1 in
       let r = after-held (list_verdict b 8 words n) _ q.1 in
-      let w = need-held (le_z (i32_at b 0) (i32_at b 4)) CrossedBounds _ refl r.1 in
+      let w = need-held (le_z (i32_at b 0) (i32_at b 4)) (Err CrossedBounds) _ refl r.1 in
       record {
         lower = size-up_to max_sum _ p.0;
         upper = size-up_to max_sum _ q.0;
@@ -239,7 +237,7 @@ module _ (k : Block) (r : RangedFrom 0 k) where
   cap-added : (b : List ℕ) → accepted (cap_verdict b) ≡ true → RangedFrom 0 (with_cap (u32_at b 0) k)
   unfolding cap_verdict accepted
   cap-added b e =
-      let p = need-held (up_to max_sum (u32_at b 0)) OutOfRange _ refl e in
+      let p = need-held (up_to max_sum (u32_at b 0)) (Err OutOfRange) _ refl e in
       from-parts (with_cap (u32_at b 0) k) zero-le r.words r.tempos r.anchors r.spans (leb-true _ _ p.0)
       r.each_word r.each_tempo r.each_anchor r.each_span
 
@@ -298,7 +296,7 @@ field-ranged s last k r e =
 some-ranged : (last : ℕ) (b : Block) → RangedFrom 0 b → accepted (end_verdict last (length b.words)) ≡ true → Ranged b
 unfolding end_verdict accepted
 some-ranged last b r h =
-    let p = need-held (leb 1 (length b.words)) OutOfOrder _ refl h in
+    let p = need-held (leb 1 (length b.words)) (Err OutOfOrder) _ refl h in
     from-parts b (leb-true _ _ p.0) r.words r.tempos r.anchors r.spans r.cap
     r.each_word r.each_tempo r.each_anchor r.each_span
 
@@ -335,7 +333,3 @@ empty-ranged =
 pub read-ranged : (s : List ℕ) (b : Block) → read s ≡ block b → Ranged b
 unfolding read
 read-ranged s b e = fields-ranged (length s) s 0 empty b empty-ranged e
-
--- of what the code answers
-pub answer-ranged : (s : List ℕ) (a : Reading) → read_of a ≡ read s → accepted a.verdict ≡ true → Ranged (block_of a.block)
-answer-ranged s a e h = read-ranged s (block_of a.block) (sym e ∙ sym (pick_true _ _ h refl))

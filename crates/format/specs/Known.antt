@@ -3,7 +3,7 @@ use Rattle.std.specs.Prelude.{◌≡◌, refl, List, [], ◌∷◌, ◌++◌, ma
 use Rattle.std.proofs.Common.{ap}
 use Rattle.folds.specs.Fold.{pick, both}
 use Rattle.block.specs.Block.{Block}
-use Rattle.format.specs.Read.{Outcome, block, refused, read, number, accepted, need, u16_at, u32_at, signed, i8_at, i32_at, size_up_to, is_zero}
+use Rattle.format.specs.Read.{Outcome, block, refused, read, accepted, need, u16_at, u32_at, signed, i8_at, i32_at, size_up_to, is_zero}
 use Rattle.format.specs.Read.{rises, pair_verdict, first_of, list_verdict, word_verdict, tempo_verdict, anchor_verdict, span_verdict, cap_verdict}
 use Rattle.format.specs.Read.{pairs_in, count, has_room, head_verdict, body_verdict, field_verdict, with_body, end_verdict, counts, fields}
 
@@ -110,7 +110,7 @@ abbrev said : List ℕ × Outcome → Outcome
 said c = c.1
 
 cases_hold : map found cases ≡ map said cases
-unfolding pick both read number accepted need u16_at u32_at signed i8_at i32_at size_up_to is_zero
+unfolding pick both read accepted need u16_at u32_at signed i8_at i32_at size_up_to is_zero
     rises pair_verdict first_of list_verdict word_verdict tempo_verdict anchor_verdict span_verdict cap_verdict
     pairs_in count has_room head_verdict body_verdict field_verdict with_body end_verdict counts fields
 cases_hold = refl

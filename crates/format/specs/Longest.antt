@@ -1,5 +1,5 @@
 -- The longest block has 2,343 bytes, and what stands after it is judged by its header alone: no byte past the first 2,346 changes the reading.
-use Rattle.std.specs.Prelude.{◌≡◌, Bool, ℕ, zero, suc, ◌+◌, ◌*◌, ◌-◌, ◌≤◌, ltb, eqb, length, take, drop}
+use Rattle.std.specs.Prelude.{◌≡◌, Bool, ℕ, zero, suc, ◌+◌, ◌*◌, ◌-◌, ◌≤◌, ltb, eqb, length, take, drop, Err}
 use Rattle.std.proofs.Math.Path.{refl, ap, ap₂}
 use Rattle.std.proofs.Common.{sym, ◌∙◌, not-suc-le-zero, le_refl, arith, lit≤, length-append, length-drop, take_all, take-take, get_or-take, length-take-le}
 use Rattle.std.proofs.Math.Bool.{true, false}
@@ -10,13 +10,12 @@ use borrow.Author.Tests.{leb-true, leb-false, ltb-true, le-leb, eqb-true, ne_eqb
 use Rattle.folds.specs.Fold.{pick, pick_true, pick_false, both, both_true, false_true}
 use Rattle.block.specs.Block.{Block}
 use Rattle.block.specs.Ranges.{max_words, max_tempos, max_anchors, max_spans}
-use Rattle.format.specs.Read.{number, accepted, need, after, u16_at, tag, len, body, one_to, in_order, cap_tag, pairs_in, count, count_of, has_room}
+use Rattle.format.specs.Read.{Verdict, Accepted, number, accepted, need, after, u16_at, tag, len, body, one_to, in_order, cap_tag, pairs_in, count, count_of, has_room}
 use Rattle.format.specs.Read.{head_verdict, body_verdict, field_verdict, word_from, tempo_from, anchor_from, span_from, with_body, with_field}
 use Rattle.format.specs.Read.{Outcome, refused, outcome, end_verdict, counts, fields, empty, read}
 use Rattle.format.specs.Laws.{need-held, after-held}
 use Rattle.format.specs.declared.Counts.{Counts}
-use Rattle.format.specs.declared.Verdict.{Verdict}
-use Rattle.format.specs.declared.Verdict.TheVariants.{Accepted, BadLength, UnknownTag, OutOfOrder, TooMany}
+use Rattle.format.specs.declared.Refusal.TheVariants.{BadLength, UnknownTag, OutOfOrder, TooMany}
 
 -- ---- how many bytes the fields after those of b have at most, `last` the tag of the last of b: with its header a word has 23 bytes, a tempo, an
 -- anchor and a span of four pairs have 18, 16 and 20, the cap 7
@@ -91,22 +90,22 @@ drop-take (suc k) (suc m) (x ∷ l) = let z : m - k ≡ suc m - suc k = omega ar
 -- the verdict on a header with tag t and length n, of a field that has k bytes at most
 unfoldable judged : ℕ → Counts → ℕ → ℕ → ℕ → Verdict
 judged last so t n k =
-    need (leb 3 k) BadLength
-    (need (one_to cap_tag t) UnknownTag
-    (need (in_order last t) OutOfOrder
-    (need (has_room t so) TooMany
-    (need (leb 1 (count t n)) BadLength
-    (need (leb n (k - 3)) BadLength
+    need (leb 3 k) (Err BadLength)
+    (need (one_to cap_tag t) (Err UnknownTag)
+    (need (in_order last t) (Err OutOfOrder)
+    (need (has_room t so) (Err TooMany)
+    (need (leb 1 (count t n)) (Err BadLength)
+    (need (leb n (k - 3)) (Err BadLength)
     Accepted)))))
 
 judged-same : (last : ℕ) (b : Block) (t n m l : ℕ) → left last b + 3 ≤ m → m ≤ l → judged last (counts b) t n m ≡ judged last (counts b) t n l
 unfolding judged need
 judged-same last b t n m l h g =
     rw (le-leb 3 m (omega arith), le-leb 3 l (omega arith))
-    (need-same (one_to cap_tag t) UnknownTag λ p.
-    need-same (in_order last t) OutOfOrder λ o.
-    need-same (has_room t (counts b)) TooMany λ r.
-    need-same (leb 1 (count t n)) BadLength λ k.
+    (need-same (one_to cap_tag t) (Err UnknownTag) λ p.
+    need-same (in_order last t) (Err OutOfOrder) λ o.
+    need-same (has_room t (counts b)) (Err TooMany) λ r.
+    need-same (leb 1 (count t n)) (Err BadLength) λ k.
     let f = field-left last t n [] 0 b p o r (leb-true 1 (count t n) k) in
     rw (le-leb n (m - 3) (omega arith), le-leb n (l - 3) (omega arith)))
 
@@ -136,11 +135,11 @@ module _ (m : ℕ) (r : List ℕ) (last : ℕ) (b : Block) (h : left last b + 3 
     within : 3 + len r + left (tag r) (with_field r b) ≤ left last b
     unfolding head_verdict accepted
     within =
-        let p₀ = need-held (leb 3 (length r)) BadLength _ refl e in
-        let p₁ = need-held (one_to cap_tag (tag r)) UnknownTag _ refl p₀.1 in
-        let p₂ = need-held (in_order last (tag r)) OutOfOrder _ refl p₁.1 in
-        let p₃ = need-held (has_room (tag r) (counts b)) TooMany _ refl p₂.1 in
-        let p₄ = need-held (leb 1 (count_of r)) BadLength _ refl p₃.1 in
+        let p₀ = need-held (leb 3 (length r)) (Err BadLength) _ refl e in
+        let p₁ = need-held (one_to cap_tag (tag r)) (Err UnknownTag) _ refl p₀.1 in
+        let p₂ = need-held (in_order last (tag r)) (Err OutOfOrder) _ refl p₁.1 in
+        let p₃ = need-held (has_room (tag r) (counts b)) (Err TooMany) _ refl p₂.1 in
+        let p₄ = need-held (leb 1 (count_of r)) (Err BadLength) _ refl p₃.1 in
         field-left last (tag r) (len r) (body r) (count_of r) b p₁.0 p₂.0 p₃.0 (leb-true 1 (count_of r) p₄.0)
 
     body-same : body (take m r) ≡ body r

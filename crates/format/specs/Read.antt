@@ -1,34 +1,48 @@
 -- What a list of bytes is as a block file: a block, or a refusal by its number. Document 01, "The block file" and "Refusal table".
 -- A field is first judged, then taken: the verdict is on bytes and tests alone, and what a field holds is looked at only where it is Accepted.
-use Rattle.std.specs.Prelude.{Bool, true, false, not, List, [], ◌∷◌, ◌++◌, ℕ, zero, suc, ◌+◌, ◌*◌, ◌-◌, length, get_or, take, drop, ltb, leb, eqb, ℤ, pos, neg_ℤ, ◌-ℤ◌}
+use Rattle.std.specs.Prelude.{Bool, true, false, not, List, [], ◌∷◌, ◌++◌, ℕ, zero, suc, ◌+◌, ◌*◌, ◌-◌, length, get_or, take, drop, ltb, leb, eqb, ℤ, pos, neg_ℤ, ◌-ℤ◌, Result, Ok, Err}
 use Rattle.std.specs.Int.Signed.{le_z}
 use Rattle.folds.specs.Fold.{pick, both}
 use Rattle.block.specs.Block.{Word, Item, Tempo, Anchor, Span, Block}
 use Rattle.block.specs.Ranges.{max_words, max_tempos, max_anchors, max_spans, max_time, max_slope, max_weight, max_coef, max_sum}
 use Rattle.format.specs.declared.Counts.{Counts}
-use Rattle.format.specs.declared.Verdict.{Verdict}
-use Rattle.format.specs.declared.Verdict.TheVariants.{Accepted, BadLength, UnknownTag, OutOfOrder, TooMany, OutOfRange, CrossedBounds, BadList}
+use Rattle.format.specs.declared.Refusal.{Refusal}
+use Rattle.format.specs.declared.Refusal.TheVariants.{BadLength, UnknownTag, OutOfOrder, TooMany, OutOfRange, CrossedBounds, BadList}
+use Rattle.format.specs.declared.Refusal.TheVariants.{ShortSlice, WrongShape, NanBound, NonFiniteCovariance, SingularCovariance, Unbounded, NotConverged, GapOverflow}
 
--- ---- "Refusal table": torn, strange tag, out of turn, crowded, off the tape, crossed, bad list
-unfoldable pub number : Verdict → ℕ
-number Accepted = 0
-number BadLength = 1
-number UnknownTag = 2
-number OutOfOrder = 3
-number TooMany = 4
-number OutOfRange = 5
-number CrossedBounds = 6
-number BadList = 7
+-- ---- "Refusal table": torn, strange tag, out of turn, crowded, off the tape, crossed, bad list; short page, wrong shape, blank bound, the engine's, overrun
+abbrev pub number_of : Refusal → ℕ
+number_of BadLength = 1
+number_of UnknownTag = 2
+number_of OutOfOrder = 3
+number_of TooMany = 4
+number_of OutOfRange = 5
+number_of CrossedBounds = 6
+number_of BadList = 7
+number_of ShortSlice = 8
+number_of WrongShape = 9
+number_of NanBound = 10
+number_of NonFiniteCovariance = 11
+number_of SingularCovariance = 12
+number_of Unbounded = 13
+number_of NotConverged = 14
+number_of GapOverflow = 15
+
+-- what judging gives: nothing, or a refusal
+abbrev pub Verdict : Type 0
+Verdict = Result (Unit {0}) Refusal
+
+abbrev pub Accepted : Verdict
+Accepted = Ok tt
 
 unfoldable pub accepted : Verdict → Bool
-accepted Accepted = true
-accepted BadLength = false
-accepted UnknownTag = false
-accepted OutOfOrder = false
-accepted TooMany = false
-accepted OutOfRange = false
-accepted CrossedBounds = false
-accepted BadList = false
+accepted (Ok u) = true
+accepted (Err r) = false
+
+-- 0 is no refusal's
+abbrev pub number : Verdict → ℕ
+number (Ok u) = 0
+number (Err r) = number_of r
 
 -- judging in order: v where the test fails, else the rest
 unfoldable pub need : (test : Bool) (v rest : Verdict) → Verdict
@@ -106,10 +120,10 @@ rises b p i = pick (eqb i 0) true (ltb (byte_at b (p + 2 * i - 1)) (byte_at b (p
 
 unfoldable pub pair_verdict : (body : List ℕ) (p words i : ℕ) → Verdict
 pair_verdict b p words i =
-    need (ltb (byte_at b (p + 2 * i + 1)) words) BadList
-    (need (rises b p i) BadList
-    (need (size_up_to max_coef (i8_at b (p + 2 * i + 2))) OutOfRange
-    (need (not (is_zero (i8_at b (p + 2 * i + 2)))) OutOfRange
+    need (ltb (byte_at b (p + 2 * i + 1)) words) (Err BadList)
+    (need (rises b p i) (Err BadList)
+    (need (size_up_to max_coef (i8_at b (p + 2 * i + 2))) (Err OutOfRange)
+    (need (not (is_zero (i8_at b (p + 2 * i + 2)))) (Err OutOfRange)
     Accepted)))
 
 -- the first refusal of f 0, f 1, .., f (n - 1), or Accepted
@@ -119,7 +133,7 @@ first_of (suc n) f = after (first_of n f) (f n)
 
 -- "a count that disagrees with a fitting length is 7": `count` is the length's
 unfoldable pub list_verdict : (body : List ℕ) (p words count : ℕ) → Verdict
-list_verdict b p words count = need (eqb (byte_at b p) count) BadList (first_of count (pair_verdict b p words))
+list_verdict b p words count = need (eqb (byte_at b p) count) (Err BadList) (first_of count (pair_verdict b p words))
 
 abbrev pub pair_from : (body : List ℕ) (p i : ℕ) → Item
 pair_from b p i = record { word = byte_at b (p + 2 * i + 1); coef = i8_at b (p + 2 * i + 2) }
@@ -131,12 +145,12 @@ list_from b p count = take count (pair_from b p 0 ∷ pair_from b p 1 ∷ pair_f
 -- "1 word: lower, upper, key time, start (each 0 to 262,144), slope (0 to 65,535)"
 unfoldable pub word_verdict : List ℕ → Verdict
 word_verdict b =
-    need (up_to max_time (u32_at b 0)) OutOfRange
-    (need (up_to max_time (u32_at b 4)) OutOfRange
-    (need (up_to max_time (u32_at b 8)) OutOfRange
-    (need (up_to max_time (u32_at b 12)) OutOfRange
-    (need (up_to max_slope (u32_at b 16)) OutOfRange
-    (need (leb (u32_at b 0) (u32_at b 4)) CrossedBounds
+    need (up_to max_time (u32_at b 0)) (Err OutOfRange)
+    (need (up_to max_time (u32_at b 4)) (Err OutOfRange)
+    (need (up_to max_time (u32_at b 8)) (Err OutOfRange)
+    (need (up_to max_time (u32_at b 12)) (Err OutOfRange)
+    (need (up_to max_slope (u32_at b 16)) (Err OutOfRange)
+    (need (leb (u32_at b 0) (u32_at b 4)) (Err CrossedBounds)
     Accepted)))))
 
 abbrev pub word_from : List ℕ → Word
@@ -145,8 +159,8 @@ word_from b = record { lower = u32_at b 0; upper = u32_at b 4; key = u32_at b 8;
 -- "2 tempo: weight (16-bit, 1 to 64), target, list"
 unfoldable pub tempo_verdict : (body : List ℕ) (words count : ℕ) → Verdict
 tempo_verdict b words count =
-    need (one_to max_weight (u16_at b 0)) OutOfRange
-    (need (size_up_to max_sum (i32_at b 2)) OutOfRange
+    need (one_to max_weight (u16_at b 0)) (Err OutOfRange)
+    (need (size_up_to max_sum (i32_at b 2)) (Err OutOfRange)
     (list_verdict b 6 words count))
 
 abbrev pub tempo_from : (body : List ℕ) (count : ℕ) → Tempo
@@ -155,7 +169,7 @@ tempo_from b count = record { weight = u16_at b 0; target = i32_at b 2; list = l
 -- "3 anchor: value, list"
 unfoldable pub anchor_verdict : (body : List ℕ) (words count : ℕ) → Verdict
 anchor_verdict b words count =
-    need (size_up_to max_sum (i32_at b 0)) OutOfRange
+    need (size_up_to max_sum (i32_at b 0)) (Err OutOfRange)
     (list_verdict b 4 words count)
 
 abbrev pub anchor_from : (body : List ℕ) (count : ℕ) → Anchor
@@ -164,10 +178,10 @@ anchor_from b count = record { value = i32_at b 0; list = list_from b 4 count }
 -- "4 span: lower, upper, list"
 unfoldable pub span_verdict : (body : List ℕ) (words count : ℕ) → Verdict
 span_verdict b words count =
-    need (size_up_to max_sum (i32_at b 0)) OutOfRange
-    (need (size_up_to max_sum (i32_at b 4)) OutOfRange
+    need (size_up_to max_sum (i32_at b 0)) (Err OutOfRange)
+    (need (size_up_to max_sum (i32_at b 4)) (Err OutOfRange)
     (after (list_verdict b 8 words count)
-    (need (le_z (i32_at b 0) (i32_at b 4)) CrossedBounds
+    (need (le_z (i32_at b 0) (i32_at b 4)) (Err CrossedBounds)
     Accepted)))
 
 abbrev pub span_from : (body : List ℕ) (count : ℕ) → Span
@@ -175,7 +189,7 @@ span_from b count = record { lower = i32_at b 0; upper = i32_at b 4; list = list
 
 -- "5 cap: 0 to 8,388,608"
 unfoldable pub cap_verdict : List ℕ → Verdict
-cap_verdict b = need (up_to max_sum (u32_at b 0)) OutOfRange Accepted
+cap_verdict b = need (up_to max_sum (u32_at b 0)) (Err OutOfRange) Accepted
 
 -- ---- "A length that fits no count of its tag is 1"
 -- the count of the list in a body of n bytes, `fixed` of which stand before its pairs; 0 where none fits
@@ -215,12 +229,12 @@ has_room t so =
 -- "a cut header 1, then 2, 3, 4, then a wrong length or a cut body 1"
 unfoldable pub head_verdict : (r : List ℕ) (last : ℕ) → Counts → Verdict
 head_verdict r last so =
-    need (leb 3 (length r)) BadLength
-    (need (one_to cap_tag (tag r)) UnknownTag
-    (need (in_order last (tag r)) OutOfOrder
-    (need (has_room (tag r) so) TooMany
-    (need (leb 1 (count_of r)) BadLength
-    (need (leb (len r) (length r - 3)) BadLength
+    need (leb 3 (length r)) (Err BadLength)
+    (need (one_to cap_tag (tag r)) (Err UnknownTag)
+    (need (in_order last (tag r)) (Err OutOfOrder)
+    (need (has_room (tag r) so) (Err TooMany)
+    (need (leb 1 (count_of r)) (Err BadLength)
+    (need (leb (len r) (length r - 3)) (Err BadLength)
     Accepted)))))
 
 unfoldable pub body_verdict : (tag : ℕ) (body : List ℕ) (words count : ℕ) → Verdict
@@ -272,8 +286,8 @@ outcome v b = pick (accepted v) (block b) (refused (number v))
 -- "at the end 3": "no word, no cap"
 unfoldable pub end_verdict : (last words : ℕ) → Verdict
 end_verdict last words =
-    need (leb 1 words) OutOfOrder
-    (need (eqb last cap_tag) OutOfOrder
+    need (leb 1 words) (Err OutOfOrder)
+    (need (eqb last cap_tag) (Err OutOfOrder)
     Accepted)
 
 unfoldable pub counts : Block → Counts

@@ -1,9 +1,9 @@
--- How the code's structs hold a block: `block_of` is document 01's block that a `Block` of the code stands for, `read_of` what a `Reading` says.
-use Rattle.std.specs.Prelude.{◌≡◌, refl, List, [], ◌∷◌, ◌++◌, map, ℕ, zero, suc, ◌+◌, ◌≤◌, ◌<◌, length, take, set, get_or, pos}
+-- How the code's structs hold a block: `block_of` is document 01's block that a `Block` of the code stands for, `read_of` what the reader says.
+use Rattle.std.specs.Prelude.{◌≡◌, refl, List, [], ◌∷◌, ◌++◌, map, ℕ, zero, suc, ◌+◌, ◌≤◌, ◌<◌, length, take, set, get_or, pos, Result, Ok, Err}
 use Rattle.std.proofs.Common.{ap, add-one, le_of_suc-le-suc, not-suc-le-zero}
 use Rattle.block.specs.Block as Spec
 use Rattle.block.specs.Ranges.{max_words, max_tempos, max_anchors, max_spans, max_pairs}
-use Rattle.format.specs.Read.{Outcome, outcome}
+use Rattle.format.specs.Read.{Outcome, block, refused, number_of}
 use Rattle.format.specs.declared.Word.{Word}
 use Rattle.format.specs.declared.Pair.{Pair}
 use Rattle.format.specs.declared.Pairs.{Pairs}
@@ -12,7 +12,7 @@ use Rattle.format.specs.declared.Anchor.{Anchor}
 use Rattle.format.specs.declared.Span.{Span}
 use Rattle.format.specs.declared.Block.{Block}
 use Rattle.format.specs.declared.Counts.{Counts}
-use Rattle.format.specs.declared.Reading.{Reading}
+use Rattle.format.specs.declared.Refusal.{Refusal}
 
 abbrev pub word_of : Word → Spec.Word
 word_of w = record { lower = w.lower; upper = w.upper; key = w.key; start = w.start; slope = w.slope }
@@ -45,8 +45,9 @@ block_of b =
 abbrev pub counts_of : Block → Counts
 counts_of b = record { words = b.words; tempos = b.tempos; anchors = b.anchors; spans = b.spans }
 
-abbrev pub read_of : Reading → Outcome
-read_of a = outcome a.verdict (block_of a.block)
+abbrev pub read_of : Result Block Refusal → Outcome
+read_of (Ok b) = block (block_of b)
+read_of (Err r) = refused (number_of r)
 
 -- ---- the arrays: as long as their types have them, and no count above its array's length
 pub record Filled (l : Pairs) : Type 0 where

@@ -1,8 +1,11 @@
-// How the reader of the block file holds a block, what it answers, and how much of a file tells the answer. The file's definition is specs/Read.antt.
+// How the reader of the block file holds a block, what is refused, and how much of a file tells the answer. The file's definition is specs/Read.antt.
 #![tactic(auto)]
 
 ghost use Rattle.std.specs.Prelude.{◌≡◌, List, ℕ, ◌≤◌, length, take};
-ghost use Rattle.format.specs.Read.{read};
+ghost use Rattle.format.specs.Read.{number_of, read};
+ghost use Rattle.format.specs.Numbered.{Numbered};
+
+mod lists;
 
 // The tags of the fields.
 pub const WORD: u64 = 1;
@@ -37,10 +40,9 @@ pub const MAX_COEF: u64 = 8;
 
 pub const MAX_SUM: u64 = 8388608;
 
-// Accepted, or one of document 01's refusals 1 to 7, in their order.
-#[derive(Clone, Copy)]
-pub enum Verdict {
-    Accepted,
+// Document 01's refusals, in the order of their numbers from 1 on.
+#[derive(Clone, Copy, PartialEq, Eq, Debug)]
+pub enum Refusal {
     BadLength,
     UnknownTag,
     OutOfOrder,
@@ -48,6 +50,70 @@ pub enum Verdict {
     OutOfRange,
     CrossedBounds,
     BadList,
+    ShortSlice,
+    WrongShape,
+    NanBound,
+    NonFiniteCovariance,
+    SingularCovariance,
+    Unbounded,
+    NotConverged,
+    GapOverflow,
+}
+
+// What C and the listing know a refusal by.
+impl From<Refusal> for u32 {
+    ghost from_gives = { λ r n. n ≡ number_of r };
+
+    fn from(r: Refusal) -> u32 {
+        match r {
+            Refusal::BadLength => 1,
+            Refusal::UnknownTag => 2,
+            Refusal::OutOfOrder => 3,
+            Refusal::TooMany => 4,
+            Refusal::OutOfRange => 5,
+            Refusal::CrossedBounds => 6,
+            Refusal::BadList => 7,
+            Refusal::ShortSlice => 8,
+            Refusal::WrongShape => 9,
+            Refusal::NanBound => 10,
+            Refusal::NonFiniteCovariance => 11,
+            Refusal::SingularCovariance => 12,
+            Refusal::Unbounded => 13,
+            Refusal::NotConverged => 14,
+            Refusal::GapOverflow => 15,
+        }
+    }
+}
+
+// A number that no refusal has.
+#[derive(Clone, Copy, PartialEq, Eq, Debug)]
+pub struct NoRefusal(pub u32);
+
+impl TryFrom<u32> for Refusal {
+    type Error = NoRefusal;
+
+    ghost try_from_gives = { Numbered };
+
+    fn try_from(n: u32) -> Result<Refusal, NoRefusal> {
+        match n {
+            1 => Ok(Refusal::BadLength),
+            2 => Ok(Refusal::UnknownTag),
+            3 => Ok(Refusal::OutOfOrder),
+            4 => Ok(Refusal::TooMany),
+            5 => Ok(Refusal::OutOfRange),
+            6 => Ok(Refusal::CrossedBounds),
+            7 => Ok(Refusal::BadList),
+            8 => Ok(Refusal::ShortSlice),
+            9 => Ok(Refusal::WrongShape),
+            10 => Ok(Refusal::NanBound),
+            11 => Ok(Refusal::NonFiniteCovariance),
+            12 => Ok(Refusal::SingularCovariance),
+            13 => Ok(Refusal::Unbounded),
+            14 => Ok(Refusal::NotConverged),
+            15 => Ok(Refusal::GapOverflow),
+            _ => Err(NoRefusal(n)),
+        }
+    }
 }
 
 #[derive(Clone, Copy)]
@@ -113,13 +179,6 @@ pub struct Counts {
     pub tempos: usize,
     pub anchors: usize,
     pub spans: usize,
-}
-
-// The block is the file's where the verdict is Accepted, else the empty one.
-#[derive(Drop)]
-pub struct Reading {
-    pub verdict: Verdict,
-    pub block: Block,
 }
 
 // What is kept of a file: the longest block and a header after it, since no byte past them changes the reading.

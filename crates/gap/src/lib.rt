@@ -3,7 +3,7 @@
 
 ghost use Rattle.std.specs.Prelude.{◌≡◌, ◌≤◌, length, ◌*ℤ◌};
 ghost use Rattle.ints.specs.Bound.{◌≼◌};
-ghost use Rattle.ints.specs.Diff.{minℤ, maxℤ};
+ghost use Rattle.ints.specs.Diff.{maxℤ};
 ghost use Rattle.block.specs.Gap.{coef_of, slope_of, g, anchor_part, span_part, line, candidates, least, word_gap, word_gaps, values, ends, gap};
 ghost use Rattle.block.specs.Ranges.{max_words, Short, RangedWord, RangedTempo, Ranged, Timed};
 ghost use Rattle.format.specs.Structs.{Filled, Sound, list_of, word_of, tempo_of, block_of};
@@ -17,18 +17,6 @@ use format::{Block, Pairs, Span, Tempo, Word};
 
 // A number for each word. A call's result gets into one by way of `next`: laid there at once, it isn't covered.
 type PerWord = [i64; format::MAX_WORDS];
-
-fn smaller(a: i64, b: i64) -> i64
-    ensures { result ≡ minℤ a b }
-{
-    if a <= b { a } else { b }
-}
-
-fn larger(a: i64, b: i64) -> i64
-    ensures { result ≡ maxℤ a b }
-{
-    if a <= b { b } else { a }
-}
 
 // h × t + (slope + cap price) × |t - key|
 fn line(w: Word, h: i64, cap: u64, t: i64) -> i64
@@ -46,16 +34,16 @@ fn least(w: Word, h: i64, cap: u64) -> i64
     ensures { result ≡ least (line (word_of w) h cap) (candidates (word_of w)) }
 {
     let low = line(w, h, cap, w.lower as i64);
-    let ends = smaller(low, line(w, h, cap, w.upper as i64));
+    let ends = low.min(line(w, h, cap, w.upper as i64));
     if w.lower <= w.key {
         if w.key <= w.upper {
-            return smaller(ends, line(w, h, cap, w.key as i64));
+            return ends.min(line(w, h, cap, w.key as i64));
         }
     }
     ends
 }
 
-// Tempo t's part of each word's half slope, added to the word's sum.
+// Tempo t's part of each word's half slope, added to the word's sum. The index is the word's number, which `slope_of` takes.
 fn add_slopes(start: PerWord, t: Tempo, times: &[i32]) -> PerWord
     requires filled { Filled t.list }
     requires ranged_tempo { RangedTempo (length times.now) (tempo_of t) }
@@ -64,8 +52,7 @@ fn add_slopes(start: PerWord, t: Tempo, times: &[i32]) -> PerWord
     ensures { Added (length times.now) start (slope_of (tempo_of t) times.now) result }
 {
     let mut sums = start;
-    let n = times.len();
-    for i in 0..n {
+    for i in 0..times.len() {
         sums[i] += slope_of(t, times, i);
     }
     sums
@@ -76,17 +63,15 @@ fn half_slopes(b: Block, times: &[i32]) -> PerWord
     requires { Planned b times.now }
     ensures { Each b.words (g (block_of b) times.now) result }
 {
-    let mut sums = [0i64; format::MAX_WORDS];
-    let n = b.tempos;
-    for j in 0..n {
-        let t = b.tempo[j];
-        let next = add_slopes(sums, t, times);
+    let mut sums = [0; format::MAX_WORDS];
+    for t in b.tempos() {
+        let next = add_slopes(sums, *t, times);
         sums = next;
     }
     sums
 }
 
-// Price × coefficient in the price's list, added to the sum of each of the n words.
+// Price × coefficient in the price's list, added to the sum of each of the n words, whose number `coef_of` takes.
 fn add_price(start: PerWord, p: i64, l: Pairs, n: usize) -> PerWord
     requires filled { Filled l }
     requires short { Short (list_of l) }
@@ -107,31 +92,22 @@ fn add_anchors(start: PerWord, b: Block, prices: &[i64]) -> PerWord
     ensures { Added b.words start (anchor_part (block_of b) (anchor_prices (block_of b) prices.now)) result }
 {
     let mut sums = start;
-    let words = b.words;
-    let n = b.anchors;
-    for k in 0..n {
-        let a = b.anchor[k];
-        let l = a.list;
-        let next = add_price(sums, prices[k], l, words);
+    for (k, a) in b.anchors().iter().enumerate() {
+        let next = add_price(sums, prices[k], a.list, b.words);
         sums = next;
     }
     sums
 }
 
-// The same for each span: its price stands after the anchors'.
+// The same for each span: its price stands after the anchors'. Spans are another type, with a bound of their own: one function for both is no plainer.
 fn add_spans(start: PerWord, b: Block, prices: &[i64]) -> PerWord
     requires price_list { PriceList b prices.now }
     requires within { Within b.words start 3298534883328 }
     ensures { Added b.words start (span_part (block_of b) (span_prices (block_of b) prices.now)) result }
 {
     let mut sums = start;
-    let words = b.words;
-    let a = b.anchors;
-    let n = b.spans;
-    for k in 0..n {
-        let s = b.span[k];
-        let l = s.list;
-        let next = add_price(sums, prices[a + k], l, words);
+    for (k, s) in b.spans().iter().enumerate() {
+        let next = add_price(sums, prices[b.anchors + k], s.list, b.words);
         sums = next;
     }
     sums
@@ -153,11 +129,9 @@ fn word_gaps(b: Block, times: &[i32], prices: &[i64], cap: u64) -> i64
 {
     let g = half_slopes(b, times);
     let h = add_spans(add_anchors(g, b, prices), b, prices);
-    let mut sum: i64 = 0;
-    let n = b.words;
-    for i in 0..n {
-        let w = b.word[i];
-        sum += word_gap(w, g[i], h[i], cap, time_at(times, i));
+    let mut sum = 0;
+    for (i, w) in b.words().iter().enumerate() {
+        sum += word_gap(*w, g[i], h[i], cap, time_at(times, i));
     }
     sum
 }
@@ -167,11 +141,9 @@ fn values(b: Block, prices: &[i64]) -> i64
     requires { PriceList b prices.now }
     ensures { result ≡ values (block_of b) (anchor_prices (block_of b) prices.now) }
 {
-    let mut sum: i64 = 0;
-    let n = b.anchors;
-    for k in 0..n {
-        let a = b.anchor[k];
-        sum += prices[k] * a.value;
+    let mut sum = 0;
+    for (a, p) in b.anchors().iter().zip(prices) {
+        sum += *p * a.value;
     }
     sum
 }
@@ -181,7 +153,7 @@ fn end_of(p: i64, s: Span) -> i64
     requires { (p ≼ 4294967296) × (s.lower ≼ 8388608) × (s.upper ≼ 8388608) }
     ensures { result ≡ maxℤ (p *ℤ s.lower) (p *ℤ s.upper) }
 {
-    larger(p * s.lower, p * s.upper)
+    (p * s.lower).max(p * s.upper)
 }
 
 // The same for each span, added up.
@@ -189,12 +161,9 @@ fn ends(b: Block, prices: &[i64]) -> i64
     requires { PriceList b prices.now }
     ensures { result ≡ ends (block_of b) (span_prices (block_of b) prices.now) }
 {
-    let mut sum: i64 = 0;
-    let a = b.anchors;
-    let n = b.spans;
-    for k in 0..n {
-        let s = b.span[k];
-        sum += end_of(prices[a + k], s);
+    let mut sum = 0;
+    for (k, s) in b.spans().iter().enumerate() {
+        sum += end_of(prices[b.anchors + k], *s);
     }
     sum
 }

@@ -1,4 +1,4 @@
-// What the program `places` prints, as bytes. The definition is specs/Listing.antt.
+// What the program `places` prints, as bytes. The definition is specs/Listing.antt. The bytes go into the caller's slice: no heap, so no String.
 #![tactic(auto)]
 
 ghost use Rattle.std.specs.Prelude.{length, ◌≤◌};
@@ -16,11 +16,9 @@ fn put_text(out: &mut [u8], at: usize, text: &[u8]) -> usize
     requires { Room at text.now out.old }
     ensures { Appended at text.now out.old result out.new }
 {
-    let n = text.len();
-    for j in 0..n {
-        out[at + j] = text[j];
-    }
-    at + n
+    let end = at + text.len();
+    out[at..end].copy_from_slice(text);
+    end
 }
 
 // The decimal digits of n.
@@ -44,9 +42,9 @@ fn put_integer(out: &mut [u8], at: usize, z: i64) -> usize
 {
     if z < 0 {
         out[at] = b'-';
-        return put_decimal(out, at + 1, (-1 - z) as u64 + 1);
+        return put_decimal(out, at + 1, z.unsigned_abs());
     }
-    put_decimal(out, at, z as u64)
+    put_decimal(out, at, z.unsigned_abs())
 }
 
 // Word number, key time, written time.
@@ -69,9 +67,7 @@ fn put_words(out: &mut [u8], at: usize, b: Block, times: &[i32]) -> usize
     ensures { Appended at (word_lines b.words (block_of b) times.now) out.old result out.new }
 {
     let mut end = at;
-    let n = b.words;
-    for i in 0..n {
-        let w = b.word[i];
+    for (i, w) in b.words().iter().enumerate() {
         end = put_word(out, end, i, w.key, time_at(times, i));
     }
     end

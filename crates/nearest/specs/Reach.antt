@@ -1,5 +1,5 @@
 -- What the public call gives: the nearest whole number of an x that is finite and below 2 ^ 53 in size.
-use Rattle.std.specs.Prelude.{◌≡◌, refl, ℕ, ◌*◌, ◌^◌, ◌≤◌, ◌⊎◌, Bool, true, false, T, ℤ, pos, negsuc, neg_ℤ, nat_abs, ◌≤ℤ◌, Float}
+use Rattle.std.specs.Prelude.{◌≡◌, refl, ℕ, ◌*◌, ◌^◌, ◌≤◌, ◌⊎◌, Bool, true, false, Option, Some, None, T, ℤ, pos, negsuc, neg_ℤ, nat_abs, ◌≤ℤ◌, Float}
 use Rattle.std.proofs.Math.Path.{sym}
 use Rattle.std.proofs.Common.{ap, ◌∙◌, arith, inl, inr, true≢false, lit≤}
 use Rattle.std.specs.Int.Signed.{lt_z}
@@ -11,15 +11,13 @@ use Rattle.ints.specs.Bound.{◌≼◌}
 use Rattle.arith.specs.Scalar.{is_finite}
 use Rattle.nearest.specs.Value.{one, units, fromℤ, lt-whole, whole-lt, less}
 use Rattle.nearest.specs.Nearest.{nearest, nearest-from, nearest_upto}
-use Rattle.nearest.specs.declared.Rounded.{Rounded}
-use Rattle.nearest.specs.declared.Rounded.TheVariants.{Whole, Far}
 
 -- x is a number, below 2 ^ 53 in size
 unfoldable pub in_reach : Float → Bool
 in_reach x = both (is_finite x) (both (lt_z (neg_ℤ (pos (2 ^ 53 * one))) (units x)) (lt_z (units x) (pos (2 ^ 53 * one))))
 
-unfoldable pub rounded : Float → Rounded
-rounded x = pick (in_reach x) (Whole (nearest x)) Far
+unfoldable pub rounded : Float → Option ℤ
+rounded x = pick (in_reach x) (Some (nearest x)) None
 
 -- ---- in reach is at most 2 ^ 53 in size
 pub reach_finite : (x : Float) → in_reach x ≡ true → is_finite x ≡ true
@@ -90,26 +88,26 @@ unreached x p f r = go (lt_z (neg_ℤ (pos (2 ^ 53 * one))) (units x)) refl (lt_
     go true e true g h = absurd (true≢false h)
 
 -- ---- what is given, and what it tells
-pub far : (x : Float) → in_reach x ≡ false → Far ≡ rounded x
+pub far : (x : Float) → in_reach x ≡ false → None ≡ rounded x
 unfolding rounded
 far x h = pick_false _ _ h refl
 
-pub reached : (x : Float) {r : ℤ} → in_reach x ≡ true → r ≡ nearest x → Whole r ≡ rounded x
+pub reached : (x : Float) {r : ℤ} → in_reach x ≡ true → r ≡ nearest x → Some r ≡ rounded x
 unfolding rounded
-reached x h e = pick_true _ _ h (ap Whole e)
+reached x h e = pick_true _ _ h (ap Some e)
 
-pub whole-is : (x : Float) (n : ℤ) → rounded x ≡ Whole n → (in_reach x ≡ true) × (n ≡ nearest x)
+pub whole-is : (x : Float) (n : ℤ) → rounded x ≡ Some n → (in_reach x ≡ true) × (n ≡ nearest x)
 unfolding rounded pick
 whole-is x n e = go (in_reach x) refl e
   where
-    go : (t : Bool) → in_reach x ≡ t → pick t (Whole (nearest x)) Far ≡ Whole n → (in_reach x ≡ true) × (n ≡ nearest x)
+    go : (t : Bool) → in_reach x ≡ t → pick t (Some (nearest x)) None ≡ Some n → (in_reach x ≡ true) × (n ≡ nearest x)
     go true r e = (r, cc)
     go false r e = absurd (let z : ◌≡◌ {A = ℕ} 0 1 = cc in omega arith)
 
-pub far_is : (x : Float) → rounded x ≡ Far → in_reach x ≡ false
+pub far_is : (x : Float) → rounded x ≡ None → in_reach x ≡ false
 unfolding rounded pick
 far_is x e = go (in_reach x) refl e
   where
-    go : (t : Bool) → in_reach x ≡ t → pick t (Whole (nearest x)) Far ≡ Far → in_reach x ≡ false
+    go : (t : Bool) → in_reach x ≡ t → pick t (Some (nearest x)) None ≡ None → in_reach x ≡ false
     go true r e = absurd (let z : ◌≡◌ {A = ℕ} 0 1 = cc in omega arith)
     go false r e = r

@@ -10,12 +10,6 @@ ghost use Rattle.nearest.specs.Reach as Reach;
 
 use arith::is_finite;
 
-#[derive(Drop)]
-pub enum Rounded {
-    Whole(i64),
-    Far,
-}
-
 // q or q + 1, the nearer one to q + r / (2 * half); of a half the even one.
 fn nearer(q: u64, r: u64, half: u64) -> u64
     requires { (q < 2 ^ 53) × (r < 2 * half) }
@@ -64,23 +58,23 @@ fn whole(x: f64) -> i64
     let b = f64::to_bits(x);
     let n = of_pattern(b % 0x8000_0000_0000_0000) as i64;
     if b >= 0x8000_0000_0000_0000 {
-        return 0 - n;
+        return -n;
     }
     n
 }
 
-// The nearest whole number, halves to even; Far where x is no number below 2^53 in size.
-pub fn nearest(x: f64) -> Rounded
+// The nearest whole number, halves to even; None where x is no number below 2^53 in size.
+pub fn nearest(x: f64) -> Option<i64>
     ensures { result ≡ Reach.rounded x }
 {
     if !is_finite(x) {
-        return Rounded::Far;
+        return None;
     }
     if !(-9007199254740992.0 < x) {
-        return Rounded::Far;
+        return None;
     }
     if !(x < 9007199254740992.0) {
-        return Rounded::Far;
+        return None;
     }
-    Rounded::Whole(whole(x))
+    Some(whole(x))
 }

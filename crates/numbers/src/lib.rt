@@ -1,24 +1,15 @@
-// The numbers of a field, their ranges, and verdicts. The definitions are format's specs/Read.antt.
+// The numbers of a field, and their ranges. The definitions are format's specs/Read.antt.
 #![tactic(auto)]
 
 ghost use Rattle.std.specs.Prelude.{◌≡◌, ◌≤◌, ◌<◌};
 ghost use Rattle.std.specs.Int.Signed.{le_z};
-ghost use Rattle.block.specs.Ranges.{max_sum};
 ghost use Rattle.format.specs.Read as Read;
-
-use format::Verdict;
-
-pub fn wide(x: u8) -> u64
-    ensures { (result ≡ x) × (result < 256) }
-{
-    x as u64
-}
 
 // The byte at i; 0 past the end.
 pub fn byte_at(b: &[u8], i: usize) -> u64
     ensures { (result ≡ Read.byte_at b.now i) × (result < 256) }
 {
-    if i < b.len() { wide(b[i]) } else { 0 }
+    if i < b.len() { u64::from(b[i]) } else { 0 }
 }
 
 pub fn u16_at(b: &[u8], i: usize) -> u64
@@ -62,21 +53,18 @@ pub fn i32_at(b: &[u8], i: usize) -> i64
 
 // Whether z is from -most to most.
 pub fn size_up_to(most: u64, z: i64) -> bool
-    requires { most ≤ max_sum }
     ensures { result ≡ Read.size_up_to most z }
 {
-    let m = most as i64;
-    if 0 - m <= z { z <= m } else { false }
+    z.unsigned_abs() <= most
 }
 
 pub fn is_zero(z: i64) -> bool
     ensures { result ≡ Read.is_zero z }
 {
-    if z <= 0 { 0 <= z } else { false }
+    z == 0
 }
 
 pub fn i8_size_up_to(most: u64, b: &[u8], i: usize) -> bool
-    requires { most ≤ max_sum }
     ensures { result ≡ Read.size_up_to most (Read.i8_at b.now i) }
 {
     size_up_to(most, i8_at(b, i))
@@ -89,7 +77,7 @@ pub fn i8_is_zero(b: &[u8], i: usize) -> bool
 }
 
 pub fn i32_size_up_to(most: u64, b: &[u8], i: usize) -> bool
-    requires { (most ≤ max_sum) × (i ≤ 30) }
+    requires { i ≤ 30 }
     ensures { result ≡ Read.size_up_to most (Read.i32_at b.now i) }
 {
     size_up_to(most, i32_at(b, i))
@@ -101,35 +89,4 @@ pub fn i32_le(b: &[u8], i: usize, j: usize) -> bool
     ensures { result ≡ le_z (Read.i32_at b.now i) (Read.i32_at b.now j) }
 {
     i32_at(b, i) <= i32_at(b, j)
-}
-
-// Document 01's number of a refusal; 0 where there is none.
-pub fn number(v: Verdict) -> u64
-    ensures { result ≡ Read.number v }
-{
-    match v {
-        Verdict::Accepted => 0,
-        Verdict::BadLength => 1,
-        Verdict::UnknownTag => 2,
-        Verdict::OutOfOrder => 3,
-        Verdict::TooMany => 4,
-        Verdict::OutOfRange => 5,
-        Verdict::CrossedBounds => 6,
-        Verdict::BadList => 7,
-    }
-}
-
-pub fn accepted(v: Verdict) -> bool
-    ensures { result ≡ Read.accepted v }
-{
-    match v {
-        Verdict::Accepted => true,
-        Verdict::BadLength => false,
-        Verdict::UnknownTag => false,
-        Verdict::OutOfOrder => false,
-        Verdict::TooMany => false,
-        Verdict::OutOfRange => false,
-        Verdict::CrossedBounds => false,
-        Verdict::BadList => false,
-    }
 }

@@ -5,7 +5,6 @@ ghost use Rattle.std.specs.Prelude.{◌≡◌, List, ℕ, ◌≤◌, length, tak
 ghost use Rattle.listing.specs.Appended.{Listed};
 ghost use Rattle.listing.specs.Longest.{longest};
 ghost use Rattle.places.specs.Places.{listing};
-ghost use Rattle.std.specs.Io.{ReadsAtMost};
 
 use std::io;
 use std::io::{Read, Write};
@@ -35,21 +34,6 @@ fn listing_of_kept(kept: [u8; format::KEPT], n: usize, out: &mut [u8]) -> usize
     listing_of(format::kept(&kept, n), out)
 }
 
-// Reads until buf is full or the input ends: how many bytes it put at the start of buf.
-fn read_full<R: Read>(input: &mut R, buf: &mut [u8]) -> io::Result<usize>
-    ensures { ReadsAtMost result buf.new }
-{
-    let mut done = 0;
-    while done < buf.len() {
-        let n = input.read(&mut buf[done..])?;
-        if n == 0 {
-            break;
-        }
-        done += n;
-    }
-    Ok(done)
-}
-
 // Reads on to the end of the input.
 fn skip_rest<R: Read>(input: &mut R) -> io::Result<()> {
     let mut past = [0u8; 65536];
@@ -64,7 +48,7 @@ fn skip_rest<R: Read>(input: &mut R) -> io::Result<()> {
 fn main(rt: HostRuntime) -> io::Result<()> {
     let mut input = rt.reader();
     let mut kept = [0u8; format::KEPT];
-    let n = read_full(&mut input, &mut kept)?;
+    let n = replay::read_full(&mut input, &mut kept)?;
     skip_rest(&mut input)?;
     let mut text = [0u8; LISTING];
     let k = listing_of_kept(kept, n, &mut text);

@@ -1,10 +1,10 @@
 -- What a plan and prices that are not refused keep; the check by its cases.
-use Rattle.std.specs.Prelude.{◌≡◌, Bool, true, false, List, ℕ, zero, suc, ◌+◌, ◌≤◌, eqb, length, ℤ, pos, negsuc, neg_ℤ, nat_abs, ◌+ℤ◌, ◌-ℤ◌, ◌*ℤ◌, ◌≤ℤ◌}
+use Rattle.std.specs.Prelude.{◌≡◌, Bool, true, false, List, ℕ, zero, suc, ◌+◌, ◌≤◌, eqb, length, ℤ, pos, negsuc, neg_ℤ, nat_abs, ◌+ℤ◌, ◌-ℤ◌, ◌*ℤ◌, ◌≤ℤ◌, ◌<◌, ◌↔◌, IsTrue, take}
 use Rattle.std.proofs.Math.Path.{refl, ap}
-use Rattle.std.proofs.Common.{sym, ◌∙◌, ap₂, subst, arith, le_trans, leb→le, lit≤}
+use Rattle.std.proofs.Common.{sym, ◌∙◌, ap₂, subst, arith, le_trans, leb→le, lit≤, length-take-le, get_or-take}
 use Rattle.std.specs.Int.Signed.{le_z}
 use borrow.Author.Tests.{le-leb, eq-eqb, ne_eqb, eqb-true}
-use Rattle.folds.specs.Fold.{all-at, both, both-on, both_stop, both_true, pick, pick_true, pick_false}
+use Rattle.folds.specs.Fold.{false_true, all, all_yes, all-same, all-at, both, both-on, both_stop, both_true, pick, pick_true, pick_false}
 use Rattle.ints.specs.Diff.{diff, split, le_z_true}
 use Rattle.ints.specs.Bound.{◌≼◌, loose}
 use Rattle.block.specs.Block.{Block}
@@ -16,8 +16,8 @@ use Rattle.block.specs.CostBound.{cost-bound, cost-bound-over}
 use Rattle.block.specs.Fits.{gap-b}
 use Rattle.format.specs.Read as Read
 use Rattle.format.specs.declared.Block as Held
-use Rattle.format.specs.declared.Verdict.{Verdict}
-use Rattle.format.specs.Laws.{refusal_nonzero}
+use Rattle.format.specs.declared.Refusal.{Refusal}
+use Rattle.format.specs.Laws.{number-nonzero}
 use Rattle.format.specs.Structs.{block_of, Sound}
 use Rattle.format.specs.Entries.{words-length, anchors-length, spans-length}
 use Rattle.gap.specs.Prices.{price_count, prices_from}
@@ -46,6 +46,25 @@ from-zero m z e = let w = between_true (pos 0) (pos m) z e in pos_le (size-from 
 
 either_side : (m : ℕ) (z : ℤ) → between (neg_ℤ (pos m)) (pos m) z ≡ true → nat_abs z ≤ m
 either_side m z e = let w = between_true (neg_ℤ (pos m)) (pos m) z e in pos_le (size-within (pos m) z w.0 w.1)
+
+-- ---- a test of each, as a chain of iterators answers it
+pub all_by : {t : Bool} (n : ℕ) (p : ℕ → Bool) → (IsTrue t ↔ ((k : ℕ) → k < n → p k ≡ true)) → t ≡ all n p
+all_by {t} n p h = go t h
+  where
+    none : (u : Bool) → all n p ≡ u → (((k : ℕ) → k < n → p k ≡ true) → false ≡ true) → false ≡ all n p
+    none true e f = absurd (false_true (f (λ k l. all-at n k p e l)))
+    none false e f = sym e
+
+    go : (u : Bool) → (IsTrue u ↔ ((k : ℕ) → k < n → p k ≡ true)) → u ≡ all n p
+    go true h = sym (all_yes n p (h.0 refl))
+    go false h = none (all n p) refl h.1
+
+-- of the first n
+pub all_first : (f : ℤ → Bool) (n : ℕ) (p : List ℤ) → n ≤ length p
+    → all (length (take n p)) (λ k. f (price (take n p) k)) ≡ all n (λ k. f (price p k))
+all_first f n p h =
+    ap (λ m. all m (λ k. f (price (take n p) k))) (length-take-le n p h)
+    ∙ all-same n (λ k. f (price (take n p) k)) (λ k. f (price p k)) (λ k l. ap f (get_or-take n p k (pos 0) l))
 
 -- ---- no refusal
 -- a row of tests that refuses with a number other than 0
@@ -163,33 +182,28 @@ module _ (s : List ℕ) (x p : List ℤ) where
         (sym (pick_true (eqb (refusal_of b x p) 0) _ (eq-eqb (refusal_of b x p) 0 z) (pick_true (fits64 (gap b x (prices_from b p))) _ f refl)))
 
 -- ---- what the call promises, by the cases of the code
-module _ (s : List ℕ) (v : Verdict) (b : Block) (e : Read.outcome v b ≡ Read.read s) where
-  is-refused : Read.accepted v ≡ false → Read.read s ≡ Read.Outcome.refused (Read.number v)
-  is-refused f = sym e ∙ sym (pick_false (Read.accepted v) (Read.Outcome.block b) f refl)
+module _ (s : List ℕ) (x p : List ℤ) (old : ℤ) where
+  refuses : (r : Refusal) → check s x p ≡ refused (Read.number_of r) → Answered s x p old (Read.number_of r) old
+  unfolding result_of gap_after
+  refuses r c = record { result = rw c refl; gap = rw c refl; bound = λ q. absurd (number-nonzero r q) }
 
-  is-block : Read.accepted v ≡ true → Read.read s ≡ Read.Outcome.block b
-  is-block f = sym e ∙ sym (pick_true (Read.accepted v) (Read.Outcome.refused (Read.number v)) f refl)
+  -- the block is refused
+  pub block-refused : (r : Refusal) → Read.Outcome.refused (Read.number_of r) ≡ Read.read s → Answered s x p old (Read.number_of r) old
+  block-refused r e = refuses r (check-refused s x p (Read.number_of r) (sym e))
 
-  module _ (x p : List ℤ) (old : ℤ) where
-    refuses : (n : ℕ) {r : ℕ} → check s x p ≡ refused n → r ≡ n → (n ≡ 0 → ⊥) → Answered s x p old r old
-    unfolding result_of gap_after
-    refuses n c e z = record { result = rw c e; gap = rw c; bound = λ q. absurd (z (sym e ∙ q)) }
-
-    -- the block is refused
-    pub block-refused : {r : ℕ} → Read.accepted v ≡ false → r ≡ Read.number v → Answered s x p old r old
-    block-refused f q = refuses (Read.number v) (check-refused s x p (Read.number v) (is-refused f)) q (refusal_nonzero v f)
-
+  module _ (b : Block) (e : Read.Outcome.block b ≡ Read.read s) where
     -- the plan or the prices are
-    pub plan-refused : {r : ℕ} → Read.accepted v ≡ true → r ≡ refusal_of b x p → (r ≡ 0 → ⊥) → Answered s x p old r old
-    plan-refused f q n = refuses (refusal_of b x p) (check-wrong s x p b (is-block f) (λ e. n (q ∙ e))) q (λ e. n (q ∙ e))
+    pub plan-refused : (r : Refusal) → Read.number_of r ≡ refusal_of b x p → Answered s x p old (Read.number_of r) old
+    plan-refused r q =
+        refuses r (check-wrong s x p b (sym e) (λ z. number-nonzero r (q ∙ z)) ∙ ap refused (sym q))
 
     -- the gap
-    pub gap-given : {z : ℤ} → Read.accepted v ≡ true → Ranged b → refusal_of b x p ≡ 0 → z ≡ gap b x (prices_from b p) → Answered s x p old 0 z
+    pub gap-given : {z : ℤ} → Ranged b → refusal_of b x p ≡ 0 → z ≡ gap b x (prices_from b p) → Answered s x p old 0 z
     unfolding result_of gap_after
-    gap-given f R n q =
-        let c = check-gap s x p b (is-block f) n R in
+    gap-given R n q =
+        let c = check-gap s x p b (sym e) n R in
         record {
-          result = rw c;
+          result = rw c refl;
           gap = rw c q;
-          bound = λ _. cost-bounded s (is-block f) R x p q;
+          bound = λ _. cost-bounded s (sym e) R x p q;
         }

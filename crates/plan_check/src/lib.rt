@@ -2,11 +2,12 @@
 #![tactic(auto)]
 
 ghost use Rattle.std.specs.Prelude.{◌≡◌, ◌+◌, ◌≤◌, ◌<◌, length};
+ghost use Rattle.format.specs.Read.{number};
 ghost use Rattle.format.specs.Structs.{Sound, block_of};
-ghost use Rattle.plan_check.specs.Check.{between, times_in, prices_in, count_refusal, time_refusal, price_refusal, earlier, refusal_of};
-ghost use Rattle.plan_check.specs.Promise.{Answered};
+ghost use Rattle.plan_check.specs.Check.{between, times_in, prices_in, count_refusal, time_refusal, price_refusal, refusal_of};
+ghost use Rattle.plan_check.specs.Promise.{Checks};
 
-use format::Block;
+use format::{Block, Refusal};
 
 const MAX_TIME: i64 = format::MAX_TIME as i64;
 
@@ -15,20 +16,13 @@ const MAX_PRICE: i64 = 4294967296;
 fn between(lower: i64, upper: i64, z: i64) -> bool
     ensures { result ≡ between lower upper z }
 {
-    if lower <= z { z <= upper } else { false }
+    (lower..=upper).contains(&z)
 }
 
 fn times_in(times: &[i32]) -> bool
     ensures { result ≡ times_in times.now }
 {
-    let n = times.len();
-    for i in 0..n {
-        let t = exact::time_at(times, i);
-        if between(0, MAX_TIME, t) {} else {
-            return false;
-        }
-    }
-    true
+    times.iter().all(|t| between(0, MAX_TIME, i64::from(*t)))
 }
 
 // The first n prices, those of the anchors and spans.
@@ -36,84 +30,64 @@ fn prices_in(prices: &[i64], n: usize) -> bool
     requires { n ≤ length prices.now }
     ensures { result ≡ prices_in n prices.now }
 {
-    for k in 0..n {
-        let p = prices[k];
-        if between(0 - MAX_PRICE, MAX_PRICE, p) {} else {
-            return false;
-        }
-    }
-    true
+    prices[..n]
+        .iter()
+        .all(|p| between(-MAX_PRICE, MAX_PRICE, *p))
 }
 
-// 9 for as many times or prices as the block hasn't, else 0.
-fn count_refusal(b: Block, times: &[i32], prices: &[i64]) -> u32
+// As many times and prices as the block has.
+fn check_counts(b: Block, times: &[i32], prices: &[i64]) -> Result<(), Refusal>
     requires { Sound b }
-    ensures { result ≡ count_refusal b.words (b.anchors + b.spans) times.now prices.now }
+    ensures { number result ≡ count_refusal b.words (b.anchors + b.spans) times.now prices.now }
 {
     if times.len() != b.words {
-        return 9;
+        return Err(Refusal::WrongShape);
     }
     if prices.len() != b.anchors + b.spans + 1 {
-        return 9;
+        return Err(Refusal::WrongShape);
     }
-    0
+    Ok(())
 }
 
-// 5 for a time outside its range, else 0.
-fn time_refusal(times: &[i32]) -> u32
-    ensures { result ≡ time_refusal times.now }
+fn check_times(times: &[i32]) -> Result<(), Refusal>
+    ensures { number result ≡ time_refusal times.now }
 {
-    if times_in(times) { 0 } else { 5 }
+    if !times_in(times) {
+        return Err(Refusal::OutOfRange);
+    }
+    Ok(())
 }
 
-// 5 for a price outside its range, else 0: n prices of anchors and spans, then the cap's.
-fn price_refusal(prices: &[i64], n: usize) -> u32
+// n prices of anchors and spans, then the cap's.
+fn check_prices(prices: &[i64], n: usize) -> Result<(), Refusal>
     requires { n < length prices.now }
-    ensures { result ≡ price_refusal n prices.now }
+    ensures { number result ≡ price_refusal n prices.now }
 {
-    if prices_in(prices, n) {} else {
-        return 5;
+    if !prices_in(prices, n) {
+        return Err(Refusal::OutOfRange);
     }
     let c = prices[n];
-    if between(0, MAX_PRICE, c) { 0 } else { 5 }
+    if !between(0, MAX_PRICE, c) {
+        return Err(Refusal::OutOfRange);
+    }
+    Ok(())
 }
 
-// The earlier of two, where it refuses.
-fn earlier(a: u32, b: u32) -> u32
-    ensures { result ≡ earlier a b }
-{
-    if a == 0 { b } else { a }
-}
-
-// The refusal of times and prices for a block, 0 where there is none.
-fn refusal(b: Block, times: &[i32], prices: &[i64]) -> u32
+// The times and prices for a block.
+fn check_plan(b: Block, times: &[i32], prices: &[i64]) -> Result<(), Refusal>
     requires { Sound b }
-    ensures { result ≡ refusal_of (block_of b) times.now prices.now }
+    ensures { number result ≡ refusal_of (block_of b) times.now prices.now }
 {
-    let counts = count_refusal(b, times, prices);
-    let judged = time_refusal(times);
-    let early = earlier(counts, judged);
-    if early == 0 {} else {
-        return early;
-    }
-    let n = b.anchors + b.spans;
-    price_refusal(prices, n)
+    check_counts(b, times, prices)?;
+    check_times(times)?;
+    check_prices(prices, b.anchors + b.spans)
 }
 
-// The gap of a plan and prices (anchors, spans, cap) for a block file: 0 and the gap, or a refusal, and the gap is left as it was.
-pub fn check(block: &[u8], times: &[i32], prices: &[i64], gap: &mut i64) -> u32
-    ensures { Answered block.now times.now prices.now gap.old result gap.new }
+// The gap of a plan and prices (anchors, spans, cap) for a block file, or a refusal.
+pub fn check(block: &[u8], times: &[i32], prices: &[i64]) -> Result<i64, Refusal>
+    ensures { Checks block.now times.now prices.now result }
 {
-    let a = reader::read(block);
-    let v = a.verdict;
-    let b = a.block;
-    if numbers::accepted(v) {} else {
-        return numbers::number(v) as u32;
-    }
-    let n = refusal(b, times, prices);
-    if n == 0 {} else {
-        return n;
-    }
-    *gap = gap::gap_of(b, times, prices);
-    0
+    let b = reader::read(block)?;
+    check_plan(b, times, prices)?;
+    Ok(gap::gap_of(b, times, prices))
 }

@@ -1,12 +1,12 @@
 // Reads a block file. The definition is `read` of format's specs/Read.antt.
 #![tactic(auto)]
 
-ghost use Rattle.std.specs.Prelude.{◌≡◌, true, false};
+ghost use Rattle.std.specs.Prelude.{◌≡◌, IfOk};
 ghost use Rattle.format.specs.Read as Read;
 ghost use Rattle.format.specs.Structs.{block_of, read_of, Sound};
 ghost use Rattle.block.specs.Ranges.{Ranged};
 
-use format::{Anchor, Block, Counts, Pair, Pairs, Reading, Span, Tempo, Verdict, Word};
+use format::{Anchor, Block, Counts, Pair, Pairs, Refusal, Span, Tempo, Word};
 
 fn empty() -> Block
     ensures { (block_of result ≡ Read.empty) × Sound result }
@@ -55,39 +55,28 @@ fn empty() -> Block
     }
 }
 
-fn end_verdict(last: u64, words: usize) -> Verdict
+fn end_verdict(last: u64, words: usize) -> Result<(), Refusal>
     ensures { result ≡ Read.end_verdict last words }
 {
     if words < 1 {
-        return Verdict::OutOfOrder;
+        return Err(Refusal::OutOfOrder);
     }
-    if last == format::CAP {
-        return Verdict::Accepted;
+    if last != format::CAP {
+        return Err(Refusal::OutOfOrder);
     }
-    Verdict::OutOfOrder
-}
-
-// A refusal holds no block: the empty one.
-fn refused(v: Verdict) -> Reading
-    ensures { (result.verdict ≡ v) × (block_of result.block ≡ Read.empty) × Sound result.block }
-{
-    let block = empty();
-    Reading {
-        verdict: v,
-        block: block,
-    }
+    Ok(())
 }
 
 // Reads the block file s.
-pub fn read(s: &[u8]) -> Reading
+pub fn read(s: &[u8]) -> Result<Block, Refusal>
     ensures result_value { read_of result ≡ Read.read s.now }
-    ensures sound { Sound result.block }
-    ensures ranged { Read.accepted result.verdict ≡ true → Ranged (block_of result.block) }
-    ensures block_value { Read.accepted result.verdict ≡ false → block_of result.block ≡ Read.empty }
+    ensures sound { IfOk result (λ b. Sound b) }
+    ensures ranged { IfOk result (λ b. Ranged (block_of b)) }
 {
     let mut block = empty();
     let mut last = 0;
     let mut at = 0;
+    // A `while`: where a field ends is known only when it is read.
     while at < s.len() {
         let r = &s[at..];
         let so = Counts {
@@ -96,42 +85,32 @@ pub fn read(s: &[u8]) -> Reading
             anchors: block.anchors,
             spans: block.spans,
         };
-        let v = fields::field_verdict(r, last, so);
-        if numbers::accepted(v) {} else {
-            return refused(v);
-        }
+        fields::field_verdict(r, last, so)?;
         last = numbers::byte_at(r, 0);
         let n = fields::count_of(r);
         let e = 3 + (numbers::u16_at(r, 1) as usize);
         let b = &r[3..e];
-        at = at + e;
-        if last == format::WORD {
-            let i = block.words;
-            block.word[i] = bodies::word_from(b);
-            block.words = i + 1;
-        } else if last == format::TEMPO {
-            let i = block.tempos;
-            block.tempo[i] = bodies::tempo_from(b, n);
-            block.tempos = i + 1;
-        } else if last == format::ANCHOR {
-            let i = block.anchors;
-            block.anchor[i] = bodies::anchor_from(b, n);
-            block.anchors = i + 1;
-        } else if last == format::SPAN {
-            let i = block.spans;
-            block.span[i] = bodies::span_from(b, n);
-            block.spans = i + 1;
-        } else {
-            block.cap = numbers::u32_at(b, 0);
+        at += e;
+        match last {
+            format::WORD => {
+                block.word[block.words] = bodies::word_from(b);
+                block.words += 1;
+            }
+            format::TEMPO => {
+                block.tempo[block.tempos] = bodies::tempo_from(b, n);
+                block.tempos += 1;
+            }
+            format::ANCHOR => {
+                block.anchor[block.anchors] = bodies::anchor_from(b, n);
+                block.anchors += 1;
+            }
+            format::SPAN => {
+                block.span[block.spans] = bodies::span_from(b, n);
+                block.spans += 1;
+            }
+            _ => block.cap = numbers::u32_at(b, 0),
         }
     }
-    let words = block.words;
-    let v = end_verdict(last, words);
-    if numbers::accepted(v) {
-        return Reading {
-            verdict: v,
-            block: block,
-        };
-    }
-    refused(v)
+    end_verdict(last, block.words)?;
+    Ok(block)
 }

@@ -2,7 +2,7 @@
 -- the order stays (`time_order`), and so does a whole window (`time-within`); what is out of range is in no window (`time-off`). A price is in range.
 use Rattle.std.proofs.Math.Path.{◌≡◌, refl, ap, ap₂}
 use Rattle.std.proofs.Common.{sym, ◌∙◌, subst, inl, inr, ⊎_elim, true≢false, add-one, arith, lit≤, length-append}
-use Rattle.std.specs.Prelude.{◌⊎◌, Bool, cond, ℕ, zero, suc, ◌+◌, ◌^◌, ◌≤◌, ◌<◌, T, set, get_or, ℤ, negsuc, neg_ℤ, nat_abs, ◌*ℤ◌, ◌≤ℤ◌, ◌<ℤ◌, Float}
+use Rattle.std.specs.Prelude.{◌⊎◌, Option, Some, None, Bool, cond, ℕ, zero, suc, ◌+◌, ◌^◌, ◌≤◌, ◌<◌, T, set, get_or, ℤ, negsuc, neg_ℤ, nat_abs, ◌*ℤ◌, ◌≤ℤ◌, ◌<ℤ◌, Float}
 use Rattle.std.proofs.Math.Bool.{true, false}
 use mathlib.Core.List.{List, [], ◌∷◌, ◌++◌}
 use Rattle.std.proofs.Math.ListN.{length, take, get_or-append}
@@ -25,11 +25,9 @@ use Rattle.nearest.specs.Whole.{WithinHalf}
 use Rattle.nearest.specs.Value.{one, units, fromℤ, lt-whole, less}
 use Rattle.nearest.specs.Nearest.{nearest, nearest-within-half, nearest_own, nearest_mono, nearest-within, nearest-from, nearest_upto}
 use Rattle.nearest.specs.Reach.{rounded, reach_finite, unreached, whole-is, far_is}
-use Rattle.nearest.specs.declared.Rounded.TheVariants.{Whole, Far}
 use Rattle.block.specs.Ranges.{max_time, max_price, Timed}
 use Rattle.rounding.specs.Rounding.{time_of, in_range, held, price_of, cap_price_of}
 use Rattle.rounding.specs.Lists.{time, all_in_range, times_of, prices_of, TimesOf, PricesOf}
-use Rattle.rounding.specs.declared.Time.TheVariants.{At, Off}
 
 -- ---- a time
 -- 2 × |x − time| ≤ 1
@@ -97,27 +95,27 @@ time-off x e = go (is_finite x) refl (le_z (pos 0) (time_of x)) refl (le_z (time
 
 -- by the cases of the code
 module _ (x : Float) where
-  pub off : in_range x ≡ false → Off ≡ time x
+  pub off : in_range x ≡ false → None ≡ time x
   unfolding time
   off h = pick_false _ _ h refl
 
-  pub on : {t : ℤ} → in_range x ≡ true → t ≡ time_of x → At t ≡ time x
+  pub on : {t : ℤ} → in_range x ≡ true → t ≡ time_of x → Some t ≡ time x
   unfolding time
-  on h e = pick_true _ _ h (ap At e)
+  on h e = pick_true _ _ h (ap Some e)
 
-  pub at_is : {t : ℤ} → time x ≡ At t → (in_range x ≡ true) × (t ≡ time_of x)
+  pub at_is : {t : ℤ} → time x ≡ Some t → (in_range x ≡ true) × (t ≡ time_of x)
   unfolding time pick
   at_is {t} e = go (in_range x) refl e
     where
-      go : (b : Bool) → in_range x ≡ b → pick b (At (time_of x)) Off ≡ At t → (in_range x ≡ true) × (t ≡ time_of x)
+      go : (b : Bool) → in_range x ≡ b → pick b (Some (time_of x)) None ≡ Some t → (in_range x ≡ true) × (t ≡ time_of x)
       go true h e = (h, cc)
       go false h e = absurd (let z : ◌≡◌ {A = ℕ} 0 1 = cc in omega arith)
 
-  pub off-is : time x ≡ Off → in_range x ≡ false
+  pub off-is : time x ≡ None → in_range x ≡ false
   unfolding time pick
   off-is e = go (in_range x) refl e
     where
-      go : (b : Bool) → in_range x ≡ b → pick b (At (time_of x)) Off ≡ Off → in_range x ≡ false
+      go : (b : Bool) → in_range x ≡ b → pick b (Some (time_of x)) None ≡ None → in_range x ≡ false
       go true h e = absurd (let z : ◌≡◌ {A = ℕ} 0 1 = cc in omega arith)
       go false h e = h
 
@@ -129,7 +127,7 @@ module _ (x : Float) where
   unfolding in_range time_of
   high h = both-second (is_finite x) (both-second (le_z (pos 0) (nearest x)) (le_z_no _ _ h))
 
-  pub far_off : T (fits binary64 x) → rounded x ≡ Far → in_range x ≡ false
+  pub far_off : T (fits binary64 x) → rounded x ≡ None → in_range x ≡ false
   far_off p e = go (is_finite x) refl
     where
       below : (n : ℤ) → n ≤ℤ negsuc 9007199254740991 → n <ℤ pos 0
@@ -142,7 +140,7 @@ module _ (x : Float) where
       go true f = ⊎_elim (λ h. low (below (nearest x) h)) (λ h. high (above (nearest x) h)) (unreached x p f (far_is x e))
       go false f = unfold in_range in both-first _ f
 
-  module _ {n : ℤ} (e : rounded x ≡ Whole n) where
+  module _ {n : ℤ} (e : rounded x ≡ Some n) where
     pub low-off : n <ℤ pos 0 → in_range x ≡ false
     low-off h = low (subst (λ z. z <ℤ pos 0) (whole-is x n e).1 h)
 
@@ -188,7 +186,7 @@ unfolding held
 held-within = split _ λ a b. simp diff (omega arith)
 
 -- one of 2^53 or more in size stands at the end of the range on its side
-module _ (x : Float) (p : T (fits binary64 x)) (f : is_finite x ≡ true) (e : rounded x ≡ Far) where
+module _ (x : Float) (p : T (fits binary64 x)) (f : is_finite x ≡ true) (e : rounded x ≡ None) where
   zero-is : of_bits binary64 0 ≡ fromℤ (pos 0)
   unfolding of_bits of_int
   zero-is = refl
@@ -266,15 +264,15 @@ cap_small x = record { size = sized (price_of x) (price-small x).size }
 
 -- ---- the lists, as the loops make them
 module _ (x : List Float) where
-  pub times-off : (i : ℕ) {l : List ℤ} → i < length x → in_range (at x i) ≡ false → TimesOf x (record { on = false; times = l })
+  pub times-off : (i : ℕ) → i < length x → in_range (at x i) ≡ false → TimesOf x None
   unfolding all_in_range
-  times-off i h e = record { all_on = all_stop i _ _ h e; are = λ q. absurd (true≢false (sym q)) }
+  times-off i h e = sym (all_stop i _ _ h e)
 
   pub times-on : (i : ℕ) {l : List ℤ} (o : List ℤ) → i ≤ length x → length x ≤ i → length x ≤ length o
       → l ≡ fold i (λ i l. set l i (time_of (at x i))) o
-      → true ≡ all i (λ i. in_range (at x i)) → TimesOf x (record { on = true; times = l })
+      → true ≡ all i (λ i. in_range (at x i)) → TimesOf x (Some l)
   unfolding all_in_range times_of
-  times-on i o p q r e a = record { all_on = all_end i _ _ p q a; are = λ _. taken-tab _ _ o (over-tab i _ _ o p q r e) }
+  times-on i o p q r e a = (sym (all_end i _ _ p q a), taken-tab _ _ o (over-tab i _ _ o p q r e))
 
   pub prices_end : (k : ℕ) {raise : Float} {l : List ℤ} {c : ℤ} (o : List ℤ) → k ≤ length x → length x ≤ k → length x ≤ length o → length x < length l
       → l ≡ fold k (λ k l. set l k (price_of (at x k))) o → c ≡ cap_price_of raise → PricesOf x raise (set l (length x) c)

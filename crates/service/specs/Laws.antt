@@ -1,6 +1,6 @@
 -- The service by its cases, and what follows of an answer.
 use Rattle.std.proofs.Math.Path.{◌≡◌, refl, ap, subst}
-use Rattle.std.proofs.Common.{sym, ◌∙◌, inl, arith}
+use Rattle.std.proofs.Common.{sym, ◌∙◌, inl, arith, lit<}
 use Rattle.std.specs.Prelude.{◌⊎◌, Bool, List, ℕ, ◌+◌, ◌≤◌, ◌<◌, length, Float}
 use Rattle.std.proofs.Math.Logic.{inr, ⊎_elim}
 use Rattle.std.proofs.Math.Bool.{true, false}
@@ -14,9 +14,11 @@ use Rattle.format.specs.Read.{Outcome, read}
 use Rattle.format.specs.InRange.{read-ranged}
 use Rattle.gap.specs.Prices.{price_count}
 use Rattle.answer.specs.File.{Answer, file_size}
+use Rattle.iterate.specs.declared.SolveError.TheVariants.{NonFiniteCovariance, SingularCovariance, Unbounded, NotConverged}
 use Rattle.minimum.specs.Capped as Engine
 use Rattle.minimum.specs.Capped.{Capped, optimal}
 use Rattle.outputs.specs.Capped.{CappedAnswer, wrong_shape, blank_bound, engine, number}
+use Rattle.outputs.specs.Piecewise.{error_number}
 use Rattle.outputs.specs.Capped.{number-optimal, number-non_finite, number-singular, number-not_converged}
 use Rattle.rounding.specs.Lists.{times_of, prices_of}
 use Rattle.block_solve.specs.Solve.{solve_block}
@@ -41,15 +43,23 @@ module _ (b : Block) (room : ℕ) where
         refuses wrong_shape q = ap refused q
         refuses blank_bound q = ap refused q
         refuses (engine (optimal x multipliers passes raise)) q = absurd (z (q ∙ number-optimal x multipliers passes raise))
-        refuses (engine Engine.non_finite) q = ap refused q
-        refuses (engine Engine.singular) q = ap refused q
-        refuses (engine Engine.unbounded) q = ap refused q
-        refuses (engine Engine.not_converged) q = ap refused q
+        refuses (engine (Engine.refused e)) q = ap refused q
 
     pub engine-answers : {d : Placed} (x multipliers : List Float) (passes : ℕ) (raise : Float)
         → solve_block b ≡ engine (optimal x multipliers passes raise) → d ≡ written b x multipliers passes raise → d ≡ place_block b room
     unfolding place_block of_engine
     engine-answers x multipliers passes raise e q = pick_true _ _ (le-leb _ _ h) (rw e q)
+
+-- ---- the engine's number, where it is no refusal's
+pub number-none : (a : CappedAnswer) → (0 < number a → 15 < number a) → number a ≡ 0
+unfolding number error_number
+number-none wrong_shape h = absurd (let l = h (lit< tt) in omega arith)
+number-none blank_bound h = absurd (let l = h (lit< tt) in omega arith)
+number-none (engine (optimal x multipliers passes raise)) h = refl
+number-none (engine (Engine.refused NonFiniteCovariance)) h = absurd (let l = h (lit< tt) in omega arith)
+number-none (engine (Engine.refused SingularCovariance)) h = absurd (let l = h (lit< tt) in omega arith)
+number-none (engine (Engine.refused Unbounded)) h = absurd (let l = h (lit< tt) in omega arith)
+number-none (engine (Engine.refused NotConverged)) h = absurd (let l = h (lit< tt) in omega arith)
 
 -- ---- the block's refusals
 module _ (s : List ℕ) (room : ℕ) where
@@ -77,10 +87,10 @@ module _ {b : Block} (R : Ranged b) where
   engine-numbered : (o : Capped) → solve_block b ≡ engine o → Numbered (of_engine b (engine o))
   unfolding of_engine number_of
   engine-numbered (optimal x multipliers passes raise) s = written-numbered x multipliers passes raise s
-  engine-numbered Engine.non_finite s = inr (inr (inl number-non_finite))
-  engine-numbered Engine.singular s = inr (inr (inr (inl number-singular)))
-  engine-numbered Engine.unbounded s = absurd (solved-bounded b s)
-  engine-numbered Engine.not_converged s = inr (inr (inr (inr number-not_converged)))
+  engine-numbered (Engine.refused NonFiniteCovariance) s = inr (inr (inl number-non_finite))
+  engine-numbered (Engine.refused SingularCovariance) s = inr (inr (inr (inl number-singular)))
+  engine-numbered (Engine.refused Unbounded) s = absurd (solved-bounded b s)
+  engine-numbered (Engine.refused NotConverged) s = inr (inr (inr (inr number-not_converged)))
 
   block-numbered : (room : ℕ) → Numbered (place_block b room)
   unfolding place_block number_of
@@ -119,10 +129,7 @@ module _ {b : Block} (R : Ranged b) {a : Answer} where
   engine-answer wrong_shape s e = absurd (let z : ◌≡◌ {A = ℕ} 0 1 = cc in omega arith)
   engine-answer blank_bound s e = absurd (let z : ◌≡◌ {A = ℕ} 0 1 = cc in omega arith)
   engine-answer (engine (optimal x multipliers passes raise)) s e = written-answer x multipliers passes raise s e
-  engine-answer (engine Engine.non_finite) s e = absurd (let z : ◌≡◌ {A = ℕ} 0 1 = cc in omega arith)
-  engine-answer (engine Engine.singular) s e = absurd (let z : ◌≡◌ {A = ℕ} 0 1 = cc in omega arith)
-  engine-answer (engine Engine.unbounded) s e = absurd (let z : ◌≡◌ {A = ℕ} 0 1 = cc in omega arith)
-  engine-answer (engine Engine.not_converged) s e = absurd (let z : ◌≡◌ {A = ℕ} 0 1 = cc in omega arith)
+  engine-answer (engine (Engine.refused error)) s e = absurd (let z : ◌≡◌ {A = ℕ} 0 1 = cc in omega arith)
 
   -- and the slice has room for it
   pub block-answer : (room : ℕ) → place_block b room ≡ answered a → Answers b a × (file_size (length b.words) (price_count b + 1) ≤ room)

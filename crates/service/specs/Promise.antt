@@ -1,9 +1,11 @@
 -- What a call of the service promises: the number, the slice and the count at exit are the definition's; and where it answers, what a reader of the
 -- bytes finds there keeps document 01's bounds on a written plan, and no plan that keeps the block costs less than the cost less the gap.
-use Rattle.std.specs.Prelude.{◌≡◌, List, ℕ, ◌+◌, ◌*◌, ◌≤◌, length, take, Float}
+use Rattle.std.specs.Prelude.{◌≡◌, List, ℕ, ◌+◌, ◌*◌, ◌≤◌, length, take, Float, Result, Ok, Err}
 use Rattle.block.specs.Block.{Block}
 use Rattle.block.specs.Keeps.{Bounded}
 use Rattle.block.specs.Gap.{gap}
+use Rattle.format.specs.Read as Read
+use Rattle.format.specs.declared.Refusal.{Refusal}
 use Rattle.gap.specs.Prices.{prices_from}
 use Rattle.gap.specs.Input.{PlanAndPrices}
 use Rattle.answer.specs.File.{Answer}
@@ -42,3 +44,8 @@ pub record Answered (s o : List ℕ) (old : ℕ) (r : ℕ) (slice : List ℕ) (w
   pub bytes : slice ≡ slice_after (place s (length o)) o
   pub count : written ≡ written_after (place s (length o)) old
   pub plan : r ≡ 0 → Plan s slice written
+
+-- the same of a result: its number, and the caller's count, which a refusal leaves
+abbrev pub Serves : (s o : List ℕ) → Result ℕ Refusal → (slice : List ℕ) → Type 0
+Serves s o (Ok n) slice = (old : ℕ) → Answered s o old 0 slice n
+Serves s o (Err r) slice = (old : ℕ) → Answered s o old (Read.number_of r) slice old

@@ -1,12 +1,8 @@
--- Which number of a word a loop takes, as the code names it.
-use Rattle.std.specs.Prelude.{ℕ}
-use Rattle.block.specs.Block.{Word}
-use Rattle.word_numbers.specs.declared.WordNumber.{WordNumber}
-use Rattle.word_numbers.specs.declared.WordNumber.TheVariants.{Key, Slope, Lower, Upper, Start}
+-- Which number of a word a loop takes: what the calls of a closure give of each word, as the code holds it.
+use Rattle.std.specs.Prelude.{◌≡◌, ℕ}
+use Rattle.block.specs.Block as Spec
+use Rattle.format.specs.Structs.{word_of}
+use Rattle.format.specs.declared.Word.{Word}
 
-unfoldable pub number_of : WordNumber → Word → ℕ
-number_of Key w = w.key
-number_of Slope w = w.slope
-number_of Lower w = w.lower
-number_of Upper w = w.upper
-number_of Start w = w.start
+abbrev pub Gives : (returns : Word → ℕ → Type 0) → (number : Spec.Word → ℕ) → Type 0
+Gives returns number = (w : Word) (n : ℕ) → returns w n → n ≡ number (word_of w)

@@ -1,45 +1,24 @@
 // The numbers of a block's words that the engine gets, a list for each, and the cap, as floats. The definitions are specs/Words.antt.
 #![tactic(auto)]
 
-ghost use Rattle.std.specs.Prelude.{◌≡◌, length};
-ghost use Rattle.format.specs.Structs.{Sound, word_of, block_of};
-ghost use Rattle.word_numbers.specs.Numbers as Numbers;
+ghost use Rattle.std.specs.Prelude.{◌≡◌, ℕ, length};
+ghost use Rattle.std.specs.Fn.{FnReturnsAt};
+ghost use Rattle.block.specs.Block as Spec;
+ghost use Rattle.format.specs.Structs.{Sound, block_of};
+ghost use Rattle.word_numbers.specs.Numbers.{Gives};
 ghost use Rattle.word_numbers.specs.Words as Words;
 
 use format::{Block, Word};
 
-// A number of a word.
-#[derive(Clone, Copy)]
-enum WordNumber {
-    Key,
-    Slope,
-    Lower,
-    Upper,
-    Start,
-}
-
-fn number_of(w: Word, which: WordNumber) -> u64
-    ensures { result ≡ Numbers.number_of which (word_of w) }
-{
-    match which {
-        WordNumber::Key => w.key,
-        WordNumber::Slope => w.slope,
-        WordNumber::Lower => w.lower,
-        WordNumber::Upper => w.upper,
-        WordNumber::Start => w.start,
-    }
-}
-
-// That number of each word.
-fn each_word(b: Block, which: WordNumber, y: &mut [f64])
+// A number of each word.
+fn each_word<F: Fn(&Word) -> u64>(b: Block, number: F, y: &mut [f64])
     requires sound { Sound b }
     requires y_len { length y.old ≡ b.words }
-    ensures { y.new ≡ Words.each_word (Numbers.number_of which) (block_of b) }
+    requires callable { F.IsAlwaysCallable number }
+    ensures { (f : Spec.Word → ℕ) → Gives (FnReturnsAt F.Fn number) f → y.new ≡ Words.each_word f (block_of b) }
 {
-    let n = b.words;
-    for i in 0..n {
-        let w = b.word[i];
-        y[i] = std::num::nearest_u64_to_f64(number_of(w, which));
+    for (i, w) in b.words().iter().enumerate() {
+        y[i] = std::num::nearest_u64_to_f64(number(w));
     }
 }
 
@@ -48,7 +27,7 @@ pub fn keys(b: Block, y: &mut [f64])
     requires y_len { length y.old ≡ b.words }
     ensures { y.new ≡ Words.keys (block_of b) }
 {
-    each_word(b, WordNumber::Key, y);
+    each_word(b, |w| w.key, y);
 }
 
 pub fn slopes(b: Block, y: &mut [f64])
@@ -56,7 +35,7 @@ pub fn slopes(b: Block, y: &mut [f64])
     requires y_len { length y.old ≡ b.words }
     ensures { y.new ≡ Words.slopes (block_of b) }
 {
-    each_word(b, WordNumber::Slope, y);
+    each_word(b, |w| w.slope, y);
 }
 
 pub fn lowers(b: Block, y: &mut [f64])
@@ -64,7 +43,7 @@ pub fn lowers(b: Block, y: &mut [f64])
     requires y_len { length y.old ≡ b.words }
     ensures { y.new ≡ Words.lowers (block_of b) }
 {
-    each_word(b, WordNumber::Lower, y);
+    each_word(b, |w| w.lower, y);
 }
 
 pub fn uppers(b: Block, y: &mut [f64])
@@ -72,7 +51,7 @@ pub fn uppers(b: Block, y: &mut [f64])
     requires y_len { length y.old ≡ b.words }
     ensures { y.new ≡ Words.uppers (block_of b) }
 {
-    each_word(b, WordNumber::Upper, y);
+    each_word(b, |w| w.upper, y);
 }
 
 pub fn starts(b: Block, y: &mut [f64])
@@ -80,7 +59,7 @@ pub fn starts(b: Block, y: &mut [f64])
     requires y_len { length y.old ≡ b.words }
     ensures { y.new ≡ Words.starts (block_of b) }
 {
-    each_word(b, WordNumber::Start, y);
+    each_word(b, |w| w.start, y);
 }
 
 pub fn cap(b: Block) -> f64

@@ -21,19 +21,13 @@ returns-then-not-has_room c =
     too_small (answer_of c.args.times.now c.args.prices.now c.args.gap c.args.passes) c.args.out.now
     (leb-false _ _ (sym c.has_room.ensures ∙ c.if-not-has_room.true))
 
-pub times_field-requires : goal.times_field-requires
-times_field-requires c =
-    record {
-      times_len_bound = c.requires.0;
-      times_in_bounds = omega (arith, room _ _ _ c.has_room.ensures c.if-not-has_room.false);
-    }
+pub numbers_field-requires : goal.numbers_field-requires
+numbers_field-requires c =
+    omega (arith, room _ _ _ c.has_room.ensures c.if-not-has_room.false)
 
-pub prices_field-requires : goal.prices_field-requires
-prices_field-requires c =
-    record {
-      prices_len_bound = c.requires.1;
-      prices_in_bounds = omega (arith, room _ _ _ c.has_room.ensures c.if-not-has_room.false);
-    }
+pub numbers_field-requires-2 : goal.numbers_field-requires-2
+numbers_field-requires-2 c =
+    omega (arith, room _ _ _ c.has_room.ensures c.if-not-has_room.false)
 
 pub number_field-requires : goal.number_field-requires
 number_field-requires c = omega (arith, room _ _ _ c.has_room.ensures c.if-not-has_room.false)
@@ -50,9 +44,9 @@ returns c =
     let q : ℕ = p + 3 + 8 * length c.args.prices.now in
     file-written (answer_of c.args.times.now c.args.prices.now c.args.gap c.args.passes) c.args.out.now p q (q + 11)
     (large _ _ _ c.has_room.ensures c.if-not-has_room.false) refl refl refl
-    c.times_field.ensures
-    c.prices_field.ensures
+    c.numbers_field.ensures
+    c.numbers_field-2.ensures
     (c.number_field.ensures
-    ∙ ap (λ (n : ℕ). pasted q (field 19 (bytes 8 n)) c.prices_field.new.out)
-    (c.code8.ensures ∙ ap (code 9223372036854775808) (param w64 c.ranges.gap).is))
+    ∙ ap (λ (n : ℕ). pasted q (field 19 (bytes 8 n)) c.numbers_field-2.new.out)
+    (c.code.ensures ∙ ap (code 9223372036854775808) (param w64 c.ranges.gap).is))
     c.number_field-2.ensures

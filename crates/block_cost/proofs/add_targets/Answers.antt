@@ -1,10 +1,10 @@
-use Rattle.folds.specs.Kit.{◌∙◌, fold_call, fold_end, kit, arith}
+use Rattle.folds.specs.Kit.{refl, ◌∙◌, fold_call, fold_end, kit, arith}
 use Rattle.std.proofs.Common.{w64}
 use Rattle.ints.specs.Held.{Cell, cell, read}
 use Rattle.format.specs.Entries.{list-length}
-use Rattle.exact.specs.Entries.{pair-word}
+use Rattle.format.specs.Lent.{lent-pairs}
 use Rattle.block_cost.specs.Cost.{add_targets}
-use Rattle.block_floats.specs.Entries.{word_of, coef-read, coef-of}
+use Rattle.block_floats.specs.Entries.{word_of, word-within, coef-read, coef-of}
 use Rattle.block_cost.proofs.add_targets.Goals as goal
 use Rattle.block_cost.proofs.add_targets.Goals.{Start}
 
@@ -14,17 +14,16 @@ target-cell a = cell w64 (record { size = a.requires.ranged_tempo.target }) tt
 pub plus_at-requires : goal.plus_at-requires
 plus_at-requires c =
     let p = c.requires in
-    omega (arith, pair-word p.filled c.loop-k-test.true p.ranged_tempo.list, c.loop-k.invariant.1)
+    omega (arith, word-within p.filled c.pairs-p-items.ensures c.loop-p-test.true p.ranged_tempo.list, c.loop-p.invariant.0)
 
-pub loop-k-preserved : goal.loop-k-preserved
-loop-k-preserved c =
+pub loop-p-preserved : goal.loop-p-preserved
+loop-p-preserved c =
     let p = c.requires in
-    let h = c.loop-k-test.true in (
-      search kit,
+    let h = c.loop-p-test.true in (
       omega arith,
-      fold_call _ _ _ c.loop-k.invariant.2
+      fold_call _ _ _ c.loop-p.invariant.1
           (c.plus_at.ensures
-          ∙ rw (word_of p.filled h, coef-of p.filled h p.ranged_tempo.list.short c.whole.ensures)),
+          ∙ rw (word_of p.filled c.pairs-p-items.ensures h, coef-of p.filled c.pairs-p-items.ensures h p.ranged_tempo.list.short c.whole.ensures)),
     )
 
 pub returns : goal.returns
@@ -32,8 +31,9 @@ unfolding add_targets
 returns c =
     let a = (goal.at.returns c).Start in
     let n = list-length c.requires.filled in
+    let e = (lent-pairs c.requires.filled c.pairs-p-items.ensures).long in
     rw (← c.nearest_u64_to_f64-weight.ensures, ← (target-cell a).is, ← c.whole-target.ensures)
-    (fold_end _ _ _ _ (omega arith) (omega arith) c.loop-k.invariant.2)
+    (fold_end _ _ _ _ (omega (arith, c.loop-p.auto.p-index-end)) (omega arith) c.loop-p.invariant.1)
 
 pub whole-target-requires : goal.whole-target-requires
 whole-target-requires c = let a = (goal.at.whole-target-requires c).Start in read (target-cell a)
@@ -41,7 +41,7 @@ whole-target-requires c = let a = (goal.at.whole-target-requires c).Start in rea
 pub whole-requires : goal.whole-requires
 whole-requires c =
     let p = c.requires in
-    coef-read p.filled c.loop-k-test.true p.ranged_tempo.list.short
+    coef-read p.filled c.pairs-p-items.ensures c.loop-p-test.true p.ranged_tempo.list.short
 
-pub loop-k-init : goal.loop-k-init
-loop-k-init c = search kit
+pub loop-p-init : goal.loop-p-init
+loop-p-init c = (refl, search kit)

@@ -1,6 +1,5 @@
 use Rattle.folds.specs.Kit.{◌≡◌, ◌≤◌}
-use Rattle.format.specs.Read.{first_of, pair_verdict}
-use Rattle.format.specs.declared.Verdict.TheVariants.{Accepted}
+use Rattle.format.specs.Read.{Accepted, first_of, pair_verdict}
 use Rattle.bodies.proofs.list_verdict.Given as goal
 
 abbrev pub invariant-loop-i : goal.invariant-loop-i

@@ -9,8 +9,8 @@ returns-then-weight-lt1 c = tempo_verdict_by _ _ _ (need_stop _ _ (both-first _ 
 pub returns-then-weight-gt-MAX_WEIGHT : goal.returns-then-weight-gt-MAX_WEIGHT
 returns-then-weight-gt-MAX_WEIGHT c = tempo_verdict_by _ _ _ (need_stop _ _ (both-second _ (search calls)))
 
-pub returns-then-i32_size_up_to : goal.returns-then-i32_size_up_to
-returns-then-i32_size_up_to c = tempo_verdict_by _ _ _ (need-on _ _ (search (both_yes, calls)) (need-on _ _ (search calls) c.list_verdict.ensures))
+pub returns-then-not-i32_size_up_to : goal.returns-then-not-i32_size_up_to
+returns-then-not-i32_size_up_to c = tempo_verdict_by _ _ _ (need-on _ _ (search (both_yes, calls)) (need_stop _ _ (search calls)))
 
 pub returns : goal.returns
-returns c = tempo_verdict_by _ _ _ (need-on _ _ (search (both_yes, calls)) (need_stop _ _ (search calls)))
+returns c = tempo_verdict_by _ _ _ (need-on _ _ (search (both_yes, calls)) (need-on _ _ (search calls) c.list_verdict.ensures))

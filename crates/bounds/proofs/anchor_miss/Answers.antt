@@ -23,9 +23,6 @@ module _ (c : After-list_sum) where
       (sum_of (list_of c.args.a.list) c.args.times.now -ℤ c.args.a.value) 16777216
   off = less sum value tt
 
-pub list_sum-requires : goal.list_sum-requires
-list_sum-requires c = let p = c.requires in record { filled = p.filled; ranged_list = p.ranged_anchor.list; timed = p.timed }
-
 pub overflow_sub-list_sum : goal.overflow_sub-list_sum
 overflow_sub-list_sum c = fits- (sum (goal.at.overflow_sub-list_sum c).After-list_sum) (value (goal.at.overflow_sub-list_sum c).After-list_sum) tt
 

@@ -1,4 +1,4 @@
-use Rattle.folds.specs.Kit.{◌≡◌, true, ◌≤◌, all}
+use Rattle.folds.specs.Kit.{◌≡◌, true, all}
 use mathlib.Core.Bool.{Bool}
 use mathlib.Core.List.{List}
 use lib.IntN.{ℤ}
@@ -10,5 +10,5 @@ use Rattle.bounds.proofs.anchors_bounded.Given as goal
 abbrev pub kept : List ℤ → Anchor → Bool
 kept x e = miss_bounded (anchor_miss e x) e.list
 
-abbrev pub invariant-loop-k : goal.invariant-loop-k
-invariant-loop-k l = (l.k ≤ l.b.anchors) × (true ≡ all l.k (λ k'. kept l.times (anchor (block_of l.b) k')))
+abbrev pub invariant-loop-a : goal.invariant-loop-a
+invariant-loop-a l = true ≡ all l.a-index (λ k. kept l.times (anchor (block_of l.fn.b) k))

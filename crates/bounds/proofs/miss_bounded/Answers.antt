@@ -3,7 +3,7 @@ use lib.IntN.{pos}
 use lib.Signed.{le_z}
 use mir.Syntax.{w64}
 use mir.Val.{of_z}
-use Rattle.ints.specs.Held.{Held, cell, called, literal, fits*, by}
+use Rattle.ints.specs.Held.{Held, cell, called, literal, by}
 use Rattle.block.specs.Keeps.{coef_sizes}
 use Rattle.block.specs.Laws.{miss_bounded-is}
 use Rattle.block.specs.Fits.{coef_sizes-b}
@@ -16,12 +16,6 @@ two = literal w64 (pos 2) tt
 
 sizes : (c : After-coef_sizes) → Held w64 (of_z w64 c.coef_sizes.result) (coef_sizes (list_of c.args.l)) 32
 sizes c = called w64 c.coef_sizes.ensures (coef_sizes-b c.requires.short) tt
-
-pub overflow_mul-result : goal.overflow_mul-result
-overflow_mul-result c = fits* two (cell w64 c.requires.miss tt) tt
-
-pub coef_sizes-requires : goal.coef_sizes-requires
-coef_sizes-requires c = record { filled = c.requires.filled; short = c.requires.short }
 
 pub returns : goal.returns
 returns c = ap₂ le_z (by two (cell w64 c.requires.miss tt) tt).is (sizes (goal.at.returns c).After-coef_sizes).is ∙ sym (miss_bounded-is _ _)

@@ -30,9 +30,6 @@ module _ (c : After-moves-m) where
   count : Held w64 c.args.b.words (pos c.args.b.words) 32
   count = cast w64 c.requires.sound.words tt
 
-pub moves-m-requires : goal.moves-m-requires
-moves-m-requires c = c.requires
-
 pub overflow_cast-result : goal.overflow_cast-result
 overflow_cast-result c = sfits (pos_b (subst (λ (n : ℕ). n ≤ 8388608) (cap-is _) c.requires.ranged.cap)) tt
 
@@ -41,9 +38,6 @@ overflow_sub-result c = fits- (moved (goal.at.overflow_sub-result c).After-moves
 
 pub overflow_mul-result : goal.overflow_mul-result
 overflow_mul-result c = fits* two (less (moved (goal.at.overflow_mul-result c).After-moves-m) (limit (goal.at.overflow_mul-result c).After-moves-m) tt) tt
-
-pub overflow_cast-result-2 : goal.overflow_cast-result-2
-overflow_cast-result-2 c = sfits (count (goal.at.overflow_cast-result-2 c).After-moves-m).bound tt
 
 pub returns : goal.returns
 returns c =

@@ -1,7 +1,7 @@
 use mathlib.Core.Path.{refl, sym, ◌∙◌}
 use mir.Syntax.{w64}
 use Rattle.folds.specs.Fold.{pick_true, pick_false}
-use Rattle.ints.specs.Held.{Cell, cell, tested<, fits-, less}
+use Rattle.ints.specs.Held.{Cell, cell, tested<, less}
 use Rattle.block.specs.Laws.{outside-is}
 use Rattle.bounds.proofs.outside.Goals as goal
 use Rattle.bounds.proofs.outside.Goals.{Start}
@@ -16,16 +16,10 @@ module _ (a : Start) where
   s : Cell w64 a.args.s 8388608
   s = cell w64 a.requires.2 tt
 
-pub overflow_sub-result : goal.overflow_sub-result
-overflow_sub-result c = let a = (goal.at.overflow_sub-result c).Start in fits- (lower a) (s a) tt
-
 pub returns-then-s-lower : goal.returns-then-s-lower
 returns-then-s-lower c =
     let a = (goal.at.returns-then-s-lower c).Start in
     pick_true _ _ (tested< (s a) (lower a) c.if-s-lower.true) (less (lower a) (s a) tt).is ∙ sym (outside-is _ _ _)
-
-pub overflow_sub-result-then-upper-s : goal.overflow_sub-result-then-upper-s
-overflow_sub-result-then-upper-s c = let a = (goal.at.overflow_sub-result-then-upper-s c).Start in fits- (s a) (upper a) tt
 
 pub returns-then-upper-s : goal.returns-then-upper-s
 returns-then-upper-s c =

@@ -24,9 +24,6 @@ module _ (c : After-list_sum) where
 outside-same : {l l' u u' s s' : ℤ} → l ≡ l' → u ≡ u' → s ≡ s' → outside l u s ≡ outside l' u' s'
 outside-same p q r = λ i. outside (p i) (q i) (r i)
 
-pub list_sum-requires : goal.list_sum-requires
-list_sum-requires c = let p = c.requires in record { filled = p.filled; ranged_list = p.ranged_span.list; timed = p.timed }
-
 pub outside-requires : goal.outside-requires
 outside-requires c = (read (low (goal.at.outside-requires c).After-list_sum), read (high (goal.at.outside-requires c).After-list_sum), read (sum (goal.at.outside-requires c).After-list_sum))
 

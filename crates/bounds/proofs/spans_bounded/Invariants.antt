@@ -1,4 +1,4 @@
-use Rattle.folds.specs.Kit.{◌≡◌, true, ◌≤◌, all}
+use Rattle.folds.specs.Kit.{◌≡◌, true, all}
 use mathlib.Core.Bool.{Bool}
 use mathlib.Core.List.{List}
 use lib.IntN.{ℤ}
@@ -10,5 +10,5 @@ use Rattle.bounds.proofs.spans_bounded.Given as goal
 abbrev pub kept : List ℤ → Span → Bool
 kept x e = miss_bounded (span_miss e x) e.list
 
-abbrev pub invariant-loop-k : goal.invariant-loop-k
-invariant-loop-k l = (l.k ≤ l.b.spans) × (true ≡ all l.k (λ k'. kept l.times (span (block_of l.b) k')))
+abbrev pub invariant-loop-s : goal.invariant-loop-s
+invariant-loop-s l = true ≡ all l.s-index (λ k. kept l.times (span (block_of l.fn.b) k))

@@ -2,16 +2,9 @@ use mathlib.Core.Path.{sym, ◌∙◌, ap₂}
 use lib.Signed.{le_z}
 use mir.Syntax.{w64}
 use Rattle.folds.specs.Fold.{both-on, both_stop}
-use Rattle.ints.specs.Bound.{sfits, pos_b}
 use Rattle.ints.specs.Held.{cell, cast, tested≤}
 use Rattle.block.specs.Laws.{window_kept-is}
 use Rattle.bounds.proofs.window_kept.Goals as goal
-
-pub overflow_cast-w : goal.overflow_cast-w
-overflow_cast-w c = sfits (pos_b c.requires.ranged_word.lower) tt
-
-pub overflow_cast-result : goal.overflow_cast-result
-overflow_cast-result c = sfits (pos_b c.requires.ranged_word.upper) tt
 
 pub returns-then-w-t : goal.returns-then-w-t
 returns-then-w-t c =

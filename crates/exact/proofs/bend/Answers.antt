@@ -1,7 +1,6 @@
 use mathlib.Core.Path.{sym, ◌∙◌, ap}
 use mir.Syntax.{w64}
 use mir.Val.{of_z}
-use Rattle.ints.specs.Bound.{sfits, pos_b}
 use Rattle.ints.specs.Held.{Held, cell, called, cast, read, fits*, by}
 use Rattle.block.specs.Plan.{move}
 use Rattle.block.specs.Laws.{bend-is}
@@ -17,9 +16,6 @@ module _ (c : After-move_of) where
   moved : Held w64 (of_z w64 c.move_of.result) (move (word_of a.args.w) a.args.t) 524288
   moved =
       called w64 (c.move_of.ensures ∙ ap (move (word_of a.args.w)) (cell w64 a.requires.t tt).is) (move-b a.requires.ranged_word a.requires.t) tt
-
-pub overflow_cast-result : goal.overflow_cast-result
-overflow_cast-result c = sfits (pos_b c.requires.ranged_word.slope) tt
 
 pub move_of-requires : goal.move_of-requires
 move_of-requires c =

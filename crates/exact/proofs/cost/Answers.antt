@@ -24,12 +24,6 @@ module _ (c : After-bends) where
 two : Held w64 2 (pos 2) 2
 two = literal w64 (pos 2) tt
 
-pub squares-requires : goal.squares-requires
-squares-requires c = c.requires
-
-pub bends-requires : goal.bends-requires
-bends-requires c = c.requires
-
 pub overflow_mul-result : goal.overflow_mul-result
 overflow_mul-result c = fits* two (words c) tt
 

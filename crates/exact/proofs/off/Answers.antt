@@ -14,9 +14,6 @@ module _ (c : After-list_sum) where
   aim : Cell w64 c.args.t.target 8388608
   aim = cell w64 (record { size = c.requires.ranged_tempo.target }) tt
 
-pub list_sum-requires : goal.list_sum-requires
-list_sum-requires c = let p = c.requires in record { filled = p.filled; ranged_list = p.ranged_tempo.list; timed = p.timed }
-
 pub overflow_sub-result : goal.overflow_sub-result
 overflow_sub-result c = fits- (sum (goal.at.overflow_sub-result c).After-list_sum) (aim (goal.at.overflow_sub-result c).After-list_sum) tt
 

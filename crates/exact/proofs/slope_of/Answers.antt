@@ -2,7 +2,6 @@ use mathlib.Core.Path.{sym, ◌∙◌}
 use mir.Syntax.{w64}
 use mir.Val.{of_z}
 use lib.IntN.{pos}
-use Rattle.ints.specs.Bound.{sfits, pos_b}
 use Rattle.ints.specs.Held.{Held, called, cast, fits*, by}
 use Rattle.block.specs.Plan.{off}
 use Rattle.block.specs.Gap.{coef_of}
@@ -22,12 +21,6 @@ module _ (c : After-off) where
 module _ (c : After-coef_of) where
   coef : Held w64 (of_z w64 c.coef_of.result) (coef_of c.args.i (list_of c.args.t.list)) 32
   coef = called w64 c.coef_of.ensures (coef_of-b c.requires.ranged_tempo.list.short c.args.i) tt
-
-pub overflow_cast-result : goal.overflow_cast-result
-overflow_cast-result c = sfits (pos_b c.requires.ranged_tempo.weight) tt
-
-pub off-requires : goal.off-requires
-off-requires c = c.requires
 
 pub overflow_mul-result : goal.overflow_mul-result
 overflow_mul-result c = fits* (weight c) (o c) tt

@@ -2,7 +2,6 @@ use mathlib.Core.Path.{sym, ◌∙◌}
 use mir.Syntax.{w64}
 use mir.Val.{of_z}
 use lib.IntN.{pos}
-use Rattle.ints.specs.Bound.{sfits}
 use Rattle.ints.specs.Held.{Held, called, cast, fits*, by}
 use Rattle.block.specs.Plan.{off}
 use Rattle.block.specs.Laws.{square_of-is}
@@ -17,12 +16,6 @@ module _ (c : After-off-o) where
 
   o : Held w64 (of_z w64 c.off-o.result) (off (tempo_of c.args.t) c.args.times.now) 16777216
   o = called w64 c.off-o.ensures (off-b c.requires.timed c.requires.ranged_tempo) tt
-
-pub off-o-requires : goal.off-o-requires
-off-o-requires c = c.requires
-
-pub overflow_cast-result : goal.overflow_cast-result
-overflow_cast-result c = sfits (weight (goal.at.overflow_cast-result c).After-off-o).bound tt
 
 pub overflow_mul-result : goal.overflow_mul-result
 overflow_mul-result c = fits* (o (goal.at.overflow_mul-result c).After-off-o) (o (goal.at.overflow_mul-result c).After-off-o) tt

@@ -8,8 +8,5 @@ use mir.Facts.{to_z-of_z}
 use Rattle.ints.specs.Held.{widens}
 use Rattle.exact.proofs.time_at.Goals as goal
 
-pub overflow_cast-result : goal.overflow_cast-result
-overflow_cast-result c = let f : SFits w32 (get_or c.args.times.now c.args.i (pos 0)) = search rules in widens f
-
 pub returns : goal.returns
-returns c = let f : SFits w32 (get_or c.args.times.now c.args.i (pos 0)) = search rules in to_z-of_z (widens f) ∙ to_z-of_z f
+returns c = let f : SFits w32 (get_or c.args.times.now c.args.i (pos 0)) = search rules in rw c.from.ensures (to_z-of_z (widens f) ∙ to_z-of_z f)

@@ -1,22 +1,25 @@
-use Rattle.folds.specs.Kit.{◌∙◌, arith}
-use Rattle.format.specs.Laws.{need-on, accepted-is, after_stop, body-is, body-same}
+use Rattle.folds.specs.Kit.{sym, ◌∙◌, arith}
+use Rattle.std.proofs.lemmas.Result.{err_from_is_err_and}
+use Rattle.format.specs.Laws.{need-on, accepted_ok, accepted-err, after_stop, body-is, body-same}
 use Rattle.format.specs.Equations.{field_verdict_by}
 use Rattle.format.specs.Whole.{whole}
 use Rattle.fields.proofs.field_verdict.Goals as goal
 
-pub slice_bounds-b-end : goal.slice_bounds-b-end
-slice_bounds-b-end c =
+pub returns-in_err-head_verdict : goal.returns-in_err-head_verdict
+returns-in_err-head_verdict c =
+    let p = err_from_is_err_and c.from_residual.result c.from_residual.ensures.1 in
+    let h = c.in_err-head_verdict.ensures in
+    rw (p.1, p.2) (field_verdict_by _ _ _ (after_stop _ h (accepted-err _ h)))
+
+pub slice_bounds-body_verdict-end : goal.slice_bounds-body_verdict-end
+slice_bounds-body_verdict-end c =
     let i = c.args in
-    let h = accepted-is c.accepted.ensures c.head_verdict-v.ensures c.if-accepted.true in
-    let w = whole i.r.now i.last i.so h in
+    let w = whole i.r.now i.last i.so (accepted_ok c.in_ok-head_verdict.ensures) in
     omega (arith, w.header, w.body, c.u16_at.ensures.0)
 
-pub returns-then-accepted : goal.returns-then-accepted
-returns-then-accepted c =
+pub returns : goal.returns
+returns c =
     let b = body-is c.args.r.now _ c.u16_at.ensures.0 in
     field_verdict_by _ _ _
-    (need-on _ _ (accepted-is c.accepted.ensures c.head_verdict-v.ensures c.if-accepted.true)
+    (need-on _ _ (accepted_ok c.in_ok-head_verdict.ensures)
     (c.body_verdict.ensures ∙ body-same _ c.byte_at-t.ensures.0 b c.count_of-k.ensures.0))
-
-pub returns : goal.returns
-returns c = field_verdict_by _ _ _ (search (after_stop, accepted-is))

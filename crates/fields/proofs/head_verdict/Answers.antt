@@ -38,6 +38,14 @@ returns-then-t-last c =
     (need-on _ _ (search (both_yes, calls, tests))
     (need_stop _ _ (both-second _ (from_no _ c.byte_at-t.ensures.0 (omega arith))))))
 
+pub returns-then-not-has_room : goal.returns-then-not-has_room
+returns-then-not-has_room c =
+    head_verdict_by _ _ _
+    (need-on _ _ (search tests)
+    (need-on _ _ (search (both_yes, calls, tests))
+    (need-on _ _ (is_in_order (goal.at.returns-then-not-has_room c).Else-t-last)
+    (need_stop _ _ (search calls)))))
+
 pub returns-then-count_of-lt1 : goal.returns-then-count_of-lt1
 returns-then-count_of-lt1 c =
     head_verdict_by _ _ _
@@ -57,21 +65,13 @@ returns-then-r-u16_at c =
     (need-on _ _ (search calls)
     (need_stop _ _ (search calls)))))))
 
-pub returns-then-has_room : goal.returns-then-has_room
-returns-then-has_room c =
-    head_verdict_by _ _ _
-    (need-on _ _ (search tests)
-    (need-on _ _ (search (both_yes, calls, tests))
-    (need-on _ _ (is_in_order (goal.at.returns-then-has_room c).Else-t-last)
-    (need-on _ _ (search calls)
-    (need-on _ _ (search calls)
-    (need-on _ _ (search calls)
-    refl))))))
-
 pub returns : goal.returns
 returns c =
     head_verdict_by _ _ _
     (need-on _ _ (search tests)
     (need-on _ _ (search (both_yes, calls, tests))
     (need-on _ _ (is_in_order (goal.at.returns c).Else-t-last)
-    (need_stop _ _ (search calls)))))
+    (need-on _ _ (search calls)
+    (need-on _ _ (search calls)
+    (need-on _ _ (search calls)
+    refl))))))

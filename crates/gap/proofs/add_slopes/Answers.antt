@@ -19,9 +19,6 @@ module _ (c : After-slope_of) where
 pub loop-i-init : goal.loop-i-init
 loop-i-init c = (search rules, search rules, passed-none _ _)
 
-pub slope_of-requires : goal.slope_of-requires
-slope_of-requires c = let p = c.requires in record { filled = p.filled; ranged_tempo = p.ranged_tempo; timed = p.timed }
-
 pub overflow_add-sums : goal.overflow_add-sums
 overflow_add-sums c =
     let e = (goal.at.overflow_add-sums c).After-slope_of in

@@ -2,9 +2,10 @@ use mathlib.Core.Path.{◌∙◌, ap₂}
 use lib.IntN.{ℤ, ◌*ℤ◌}
 use mir.Syntax.{w64}
 use mir.Val.{to_z, of_z}
-use Rattle.ints.specs.Diff.{maxℤ}
+use Rattle.std.specs.Int.{int_max}
+use Rattle.gap.proofs.Library.{largest}
 use Rattle.ints.specs.Bound.{max-b}
-use Rattle.ints.specs.Held.{Held, cell, called, fits*, by}
+use Rattle.ints.specs.Held.{Held, cell, called, by}
 use Rattle.gap.proofs.end_of.Goals as goal
 use Rattle.gap.proofs.end_of.Goals.{Start}
 
@@ -18,13 +19,7 @@ module _ (a : Start) where
   high : Held w64 (of_z w64 (to_z w64 (of_z w64 p) *ℤ to_z w64 (of_z w64 a.args.s.upper))) (p *ℤ a.args.s.upper) 36028797018963968
   high = by (cell w64 a.requires.0 tt) (cell w64 a.requires.2 tt) tt
 
-pub overflow_mul-p : goal.overflow_mul-p
-overflow_mul-p c = let p = c.requires in fits* (cell w64 p.0 tt) (cell w64 p.1 tt) tt
-
-pub overflow_mul-p-2 : goal.overflow_mul-p-2
-overflow_mul-p-2 c = let p = c.requires in fits* (cell w64 p.0 tt) (cell w64 p.2 tt) tt
-
 pub returns : goal.returns
 returns c =
     let a = (goal.at.returns c).Start in
-    (called w64 (c.larger.ensures ∙ ap₂ maxℤ (low a).is (high a).is) (max-b (low a).bound (high a).bound) tt).is
+    (called w64 (c.max.ensures.value ∙ ap₂ int_max (low a).is (high a).is ∙ largest _ _) (max-b (low a).bound (high a).bound) tt).is

@@ -1,5 +1,4 @@
 use mathlib.Core.Path.{◌≡◌}
-use Prim.Native.Nat.{◌≤◌}
 use lib.IntN.{ℤ, ◌*ℤ◌}
 use Rattle.ints.specs.Sum.{Σ}
 use Rattle.ints.specs.Diff.{maxℤ}
@@ -14,4 +13,4 @@ abbrev pub larger : ℤ → Span → ℤ
 larger p s = maxℤ (p *ℤ s.lower) (p *ℤ s.upper)
 
 abbrev pub invariant-loop-k : goal.invariant-loop-k
-invariant-loop-k l = (l.k ≤ l.b.spans) × (l.sum ≡ Σ l.k (λ k'. larger (price (span_prices (block_of l.b) l.prices) k') (span (block_of l.b) k')))
+invariant-loop-k l = l.sum ≡ Σ l.k (λ k. larger (price (span_prices (block_of l.fn.b) l.prices) k) (span (block_of l.fn.b) k))

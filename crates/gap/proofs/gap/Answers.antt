@@ -47,32 +47,20 @@ module _ (c : After-ends) where
 two : Held w64 2 (pos 2) 2
 two = literal w64 (pos 2) tt
 
-pub overflow_cast-c : goal.overflow_cast-c
-overflow_cast-c c = sfits (price c).bound tt
-
 pub overflow_cast-c-2 : goal.overflow_cast-c-2
 overflow_cast-c-2 c = sfits (limit (goal.at.overflow_cast-c-2 c).Start).bound tt
 
 pub overflow_mul-c : goal.overflow_mul-c
 overflow_mul-c c = fits* (price (goal.at.overflow_mul-c c).Start) (limit (goal.at.overflow_mul-c c).Start) tt
 
-pub word_gaps-requires : goal.word_gaps-requires
-word_gaps-requires c = c.requires
-
 pub overflow_mul-result : goal.overflow_mul-result
 overflow_mul-result c = fits* two (W (goal.at.overflow_mul-result c).After-word_gaps) tt
-
-pub values-requires : goal.values-requires
-values-requires c = c.requires.prices
 
 pub overflow_mul-result-2 : goal.overflow_mul-result-2
 overflow_mul-result-2 c = fits* two (A (goal.at.overflow_mul-result-2 c).After-values) tt
 
 pub overflow_add-result : goal.overflow_add-result
 overflow_add-result c = fits+ (by two (W (goal.at.overflow_add-result c).After-word_gaps) tt) (by two (A (goal.at.overflow_add-result c).After-values) tt) tt
-
-pub ends-requires : goal.ends-requires
-ends-requires c = c.requires.prices
 
 pub overflow_mul-result-3 : goal.overflow_mul-result-3
 overflow_mul-result-3 c = fits* two (S (goal.at.overflow_mul-result-3 c).After-ends) tt

@@ -1,4 +1,3 @@
-use Prim.Native.Nat.{◌≤◌}
 use lib.ListN.{length, replicate}
 use lib.IntN.{pos}
 use Rattle.block.specs.Block.{tempo}
@@ -8,5 +7,5 @@ use Rattle.format.specs.Structs.{block_of}
 use Rattle.gap.specs.Words.{Totals}
 use Rattle.gap.proofs.half_slopes.Given as goal
 
-abbrev pub invariant-loop-j : goal.invariant-loop-j
-invariant-loop-j l = (l.j ≤ l.b.tempos) × Totals (length l.times) (replicate max_words (pos 0)) l.j (λ i j'. slope_of (tempo (block_of l.b) j') l.times i) l.sums
+abbrev pub invariant-loop-t : goal.invariant-loop-t
+invariant-loop-t l = Totals (length l.times) (replicate max_words (pos 0)) l.t-index (λ i j. slope_of (tempo (block_of l.fn.b) j) l.times i) l.sums

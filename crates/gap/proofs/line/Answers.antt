@@ -2,7 +2,6 @@ use mathlib.Core.Path.{sym, ◌∙◌, ap}
 use lib.IntN.{pos, ◌+ℤ◌}
 use mir.Syntax.{w64}
 use mir.Val.{to_z, of_z}
-use Rattle.ints.specs.Bound.{sfits, pos_b}
 use Rattle.ints.specs.Held.{Held, cell, called, cast, read, fits+, fits*, plus, by}
 use Rattle.block.specs.Plan.{move}
 use Rattle.block.specs.Laws.{line-is}
@@ -18,18 +17,6 @@ module _ (c : Start) where
 module _ (c : After-move_of) where
   moved : Held w64 (of_z w64 c.move_of.result) (move (word_of c.args.w) c.args.t) 524288
   moved = called w64 (c.move_of.ensures ∙ ap (move (word_of c.args.w)) (cell w64 c.requires.h.2 tt).is) (move-b c.requires.ranged_word c.requires.h.2) tt
-
-pub overflow_mul-result : goal.overflow_mul-result
-overflow_mul-result c = fits* (cell w64 c.requires.h.0 tt) (cell w64 c.requires.h.2 tt) tt
-
-pub overflow_cast-result : goal.overflow_cast-result
-overflow_cast-result c = sfits (pos_b c.requires.ranged_word.slope) tt
-
-pub overflow_cast-result-2 : goal.overflow_cast-result-2
-overflow_cast-result-2 c = sfits (pos_b c.requires.h.1) tt
-
-pub overflow_add-result : goal.overflow_add-result
-overflow_add-result c = fits+ (cast w64 c.requires.ranged_word.slope tt) (cast w64 c.requires.h.1 tt) tt
 
 pub move_of-requires : goal.move_of-requires
 move_of-requires c =

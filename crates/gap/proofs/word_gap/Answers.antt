@@ -2,7 +2,7 @@ use mathlib.Core.Path.{sym, ◌∙◌, ap}
 use lib.IntN.{ℤ, ◌*ℤ◌}
 use mir.Syntax.{w64}
 use mir.Val.{to_z, of_z}
-use Rattle.ints.specs.Held.{Held, cell, called, read, fits+, fits-, fits*, plus, less, by}
+use Rattle.ints.specs.Held.{Held, cell, called, read, fits+, fits-, plus, less, by}
 use Rattle.block.specs.Plan.{bend}
 use Rattle.block.specs.Gap.{line, candidates, least}
 use Rattle.block.specs.Laws.{word_gap-is}
@@ -27,9 +27,6 @@ module _ (c : After-least) where
   lowest =
       called w64 (c.least.ensures ∙ ap least_of (cell w64 c.requires.g.1 tt).is)
       (least-line-b c.requires.ranged_word c.args.h c.args.cap c.requires.g.1 c.requires.g.2) tt
-
-pub overflow_mul-result : goal.overflow_mul-result
-overflow_mul-result c = fits* (cell w64 c.requires.g.0 tt) (cell w64 c.requires.g.3 tt) tt
 
 pub bend-requires : goal.bend-requires
 bend-requires c =

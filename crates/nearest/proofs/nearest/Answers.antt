@@ -1,4 +1,4 @@
--- `nearest` is the nearest whole number, or Far.
+-- `nearest` is the nearest whole number, or None.
 use mathlib.Core.Path.{◌≡◌, sym, ◌∙◌, subst}
 use mathlib.Core.Bool.{true}
 use lib.Dec.{T}

@@ -1,13 +1,16 @@
-use Rattle.folds.specs.Kit.{refl}
-use lib.IntN.{pos}
-use mir.Syntax.{w64}
+use Rattle.std.proofs.Common.{◌≡◌, zero, suc, refl, ◌∙◌, nat_eq, ne_eqb, arith, of_z, w64}
+use Rattle.std.proofs.Math.Dec.{leb-suc-zero}
+use Rattle.std.specs.Prelude.{ℤ, pos, negsuc}
+use mir.Val.{SFits}
 use Rattle.folds.specs.Fold.{both-on, both_stop}
-use Rattle.ints.specs.Held.{literal, param, tested≤}
+use Rattle.format.specs.Read.{is_zero}
 use Rattle.format.specs.Equations.{is_zero_by}
 use Rattle.numbers.proofs.is_zero.Goals as goal
 
-pub returns-then-z-le0 : goal.returns-then-z-le0
-returns-then-z-le0 c = let z = param w64 c.ranges.z in is_zero_by _ (simp z.is (both-on (tested≤ z (literal w64 (pos 0) tt) c.if-z-le0.true) refl))
+tested : (z : ℤ) → SFits w64 z → nat_eq (of_z w64 z) 0 ≡ is_zero z
+tested (pos zero) f = is_zero_by _ (both-on refl refl)
+tested (pos (suc n)) f = ne_eqb (suc n) 0 (λ e. omega arith) ∙ is_zero_by _ (both_stop _ (leb-suc-zero n))
+tested (negsuc n) f = ne_eqb _ 0 (λ e. omega (arith, f.sfits)) ∙ is_zero_by _ (both-on refl refl)
 
-pub returns-else-z-le0 : goal.returns-else-z-le0
-returns-else-z-le0 c = is_zero_by _ (both_stop _ (tested≤ (param w64 c.ranges.z) (literal w64 (pos 0) tt) c.if-z-le0.false))
+pub returns : goal.returns
+returns c = tested c.args.z c.ranges.z

@@ -1,36 +1,22 @@
-use Rattle.folds.specs.Kit.{ℕ, true, false, ◌≡◌, refl, sym, ap, ◌∙◌, arith}
-use lib.IntN.{ℤ, pos, neg_ℤ, ◌-ℤ◌}
-use lib.Signed.{le_z}
-use mathlib.Core.Path.{ap₂}
-use mir.Syntax.{w64}
-use Rattle.folds.specs.Fold.{both-on, both_stop}
-use Rattle.ints.specs.Diff.{diff, split}
-use Rattle.ints.specs.Held.{cast, less, fits-, literal, param, tested≤}
+use Rattle.std.proofs.Common.{◌≡◌, ℕ, zero, suc, refl, ◌∙◌, ap, zero-le, to_z-of_z, Bool, true, false}
+use Rattle.std.proofs.Math.Dec.{leb, leb-suc-zero, leb-suc-suc}
+use Rattle.std.specs.Prelude.{ℤ, pos, negsuc, nat_abs}
+use Rattle.std.proofs.lemmas.Bool.{le-leb}
+use Rattle.folds.specs.Fold.{both, both-on, both_stop}
 use Rattle.format.specs.Read.{size_up_to}
 use Rattle.format.specs.Equations.{size_up_to_by}
 use Rattle.numbers.proofs.size_up_to.Goals as goal
 
-minus : (z : ℤ) → pos 0 -ℤ z ≡ neg_ℤ z
-minus = split _ λ a b. simp diff (omega arith)
+yes : (t : Bool) → t ≡ both t true
+unfolding both
+yes true = refl
+yes false = refl
 
-module _ (most : ℕ) (z : ℤ) where
-  from-below : le_z (pos 0 -ℤ pos most) z ≡ true → le_z z (pos most) ≡ size_up_to most z
-  from-below e = size_up_to_by most z (both-on (sym (ap (λ y. le_z y z) (minus (pos most))) ∙ e) refl)
+sized : (most : ℕ) (z : ℤ) → leb (nat_abs z) most ≡ size_up_to most z
+sized zero (pos n) = size_up_to_by 0 (pos n) (both-on (le-leb 0 n zero-le) refl)
+sized (suc m) (pos n) = size_up_to_by (suc m) (pos n) (both-on refl refl)
+sized zero (negsuc n) = leb-suc-zero n ∙ size_up_to_by 0 (negsuc n) (both_stop true refl)
+sized (suc m) (negsuc n) = leb-suc-suc n m ∙ size_up_to_by (suc m) (negsuc n) (yes (leb n m))
 
-  below : le_z (pos 0 -ℤ pos most) z ≡ false → false ≡ size_up_to most z
-  below e = size_up_to_by most z (both_stop (le_z z (pos most)) (sym (ap (λ y. le_z y z) (minus (pos most))) ∙ e))
-
-pub overflow_sub-m : goal.overflow_sub-m
-overflow_sub-m c = fits- (literal w64 (pos 0) tt) (cast w64 {n = c.args.most} {a = 8388608} (omega arith) tt) tt
-
-pub returns-then-m-z : goal.returns-then-m-z
-returns-then-m-z c =
-    let z = param w64 c.ranges.z in
-    let m = cast w64 {n = c.args.most} {a = 8388608} (omega arith) tt in
-    ap₂ le_z z.is m.is ∙ from-below c.args.most c.args.z (tested≤ (less (literal w64 (pos 0) tt) m tt) z c.if-m-z.true)
-
-pub returns-else-m-z : goal.returns-else-m-z
-returns-else-m-z c =
-    let z = param w64 c.ranges.z in
-    let m = cast w64 {n = c.args.most} {a = 8388608} (omega arith) tt in
-    below c.args.most c.args.z (tested≤ (less (literal w64 (pos 0) tt) m tt) z c.if-m-z.false)
+pub returns : goal.returns
+returns c = ap (λ (n : ℕ). leb n c.args.most) (c.unsigned_abs.ensures.value ∙ ap nat_abs (to_z-of_z c.ranges.z)) ∙ sized c.args.most c.args.z

@@ -1,8 +1,9 @@
-use Rattle.folds.specs.Kit.{refl, sym, ◌∙◌, ◌≤◌, ◌+◌, length, rules}
+use Rattle.folds.specs.Kit.{ap, sym, ◌∙◌, ◌≤◌, ◌+◌, length, rules}
 use lib.Seq.{length-take-le}
 use mir.Syntax.{w64}
 use mir.Facts.{to_z-of_z}
-use Rattle.placement.specs.Held.{holds-gap}
+use Rattle.std.specs.Prelude.{ℤ, take}
+use Rattle.answer.specs.File.{answer_of}
 use Rattle.placement.proofs.with_gap.Goals as goal
 use Rattle.placement.proofs.with_gap.Goals.{Start}
 
@@ -29,5 +30,9 @@ slice_bounds-gap_of-end-2 c = sym (length-take-le _ _ (prices-room (goal.at.slic
 pub gap_of-gap-requires : goal.gap_of-gap-requires
 gap_of-gap-requires c = c.requires
 
-pub returns : goal.returns
-returns c = holds-gap _ refl (to_z-of_z {w = w64} (record { sfits = c.gap_of-gap.type_inv }) ∙ c.gap_of-gap.ensures)
+pub returns-clause-answer : goal.returns-clause-answer
+returns-clause-answer c =
+    let a = c.args in
+    let x = take a.b.words a.times in
+    let p = take (a.b.anchors + a.b.spans + 1) a.prices in
+    ap (λ (z : ℤ). answer_of x p z a.passes) (to_z-of_z {w = w64} (record { sfits = c.gap_of-gap.type_inv }) ∙ c.gap_of-gap.ensures)

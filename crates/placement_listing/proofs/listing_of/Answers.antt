@@ -1,50 +1,46 @@
-use Rattle.folds.specs.Kit.{◌≡◌, sym, ap, ◌≤◌, length, arith, rules}
+use Rattle.folds.specs.Kit.{sym, ap, ◌≤◌, length, arith, rules}
 use lib.ListN.{take, length-take}
 use lib.Seq.{length-take-le}
 use lib.IntN.{ℤ}
 use mir.Syntax.{w64}
-use mir.Val.{SFits, to_z, of_z}
+use mir.Val.{SFits}
 use mir.Facts.{to_z-of_z}
+use Rattle.exact.specs.Planned.{Planned}
 use Rattle.format.specs.Structs.{block_of}
-use Rattle.listing.specs.Listing.{plan}
+use Rattle.listing.specs.Listing.{plan, refused}
 use Rattle.listing.specs.Appended.{listed_as}
 use Rattle.placement.specs.declared.Placement.{Placement}
-use Rattle.placement_listing.specs.Laws.{listing-plan, listing-refusal}
+use Rattle.placement_listing.specs.Laws.{listing-plan}
 use Rattle.placement_listing.proofs.listing_of.Goals as goal
-use Rattle.placement_listing.proofs.listing_of.Goals.{Start, Then-p-eq0}
+use Rattle.placement_listing.proofs.listing_of.Goals.{In-Ok}
 
-fits : (c : Start) → SFits w64 c.args.p.gap
-fits c = search rules
-
-module _ (c : Then-p-eq0) where
+module _ (c : In-Ok) where
   abbrev p : Placement
-  p = c.args.p
+  p = c.in-Ok.q
+
+  planned : Planned p.block (take p.block.words p.times)
+  planned = rw c.in-Ok.is at c.requires.planned
 
   few : p.block.words ≤ length p.times
-  few = omega (arith, (c.requires.planned c.if-p-eq0.true).each, length-take p.block.words p.times)
-
-  -- the gap, as the callee reads it
-  gap : plan (block_of p.block) (take p.block.words p.times) (to_z w64 (of_z w64 p.gap)) p.passes
-      ≡ plan (block_of p.block) (take p.block.words p.times) p.gap p.passes
-  gap = ap (λ (g : ℤ). plan (block_of p.block) (take p.block.words p.times) g p.passes) (to_z-of_z (fits (goal.at.Then-p-eq0 c).Start))
-
-pub slice_bounds-times-end : goal.slice_bounds-times-end
-slice_bounds-times-end c = few (goal.at.slice_bounds-times-end c).Then-p-eq0
+  few = omega (arith, planned.each, length-take p.block.words p.times)
 
 pub slice_bounds-plan-end : goal.slice_bounds-plan-end
-slice_bounds-plan-end c = sym (length-take-le _ _ (few (goal.at.slice_bounds-plan-end c).Then-p-eq0))
+slice_bounds-plan-end c = sym (length-take-le _ _ (few (goal.at.slice_bounds-plan-end c).In-Ok))
 
 pub plan-requires : goal.plan-requires
 plan-requires c =
     record {
-      planned = c.requires.planned c.if-p-eq0.true;
+      planned = planned (goal.at.plan-requires c).In-Ok;
       longest_in_bounds = c.requires.longest_in_bounds;
     }
 
-pub returns-then-p-eq0 : goal.returns-then-p-eq0
-returns-then-p-eq0 c =
-    let t = (goal.at.returns-then-p-eq0 c).Then-p-eq0 in
-    listed_as (listing-plan _ (p t) c.if-p-eq0.true) (listed_as (gap t) c.plan.ensures)
+pub returns-in-Ok : goal.returns-in-Ok
+returns-in-Ok c =
+    let q = p (goal.at.returns-in-Ok c).In-Ok in
+    let fits : SFits w64 q.gap = search rules in
+    rw c.in-Ok.is
+    (listed_as (listing-plan _ q)
+    (listed_as (ap (λ (g : ℤ). plan (block_of q.block) (take q.block.words q.times) g q.passes) (to_z-of_z fits)) c.plan.ensures))
 
-pub returns : goal.returns
-returns c = listed_as (listing-refusal _ _ c.if-p-eq0.false) c.refused.ensures
+pub returns-in-Err : goal.returns-in-Err
+returns-in-Err c = rw c.in-Err.is (listed_as (ap refused c.from.ensures) c.refused.ensures)

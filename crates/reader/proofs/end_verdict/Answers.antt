@@ -7,8 +7,8 @@ use Rattle.reader.proofs.end_verdict.Goals as goal
 pub returns-then-words-lt1 : goal.returns-then-words-lt1
 returns-then-words-lt1 c = end_verdict_by _ _ (need_stop _ _ (lt-leb _ _ c.if-words-lt1.true))
 
-pub returns-then-last-eq-CAP : goal.returns-then-last-eq-CAP
-returns-then-last-eq-CAP c = end_verdict_by _ _ (need-on _ _ (le-leb _ _ c.if-words-lt1.false) (need-on _ _ (eq-eqb _ _ c.if-last-eq-CAP.true) refl))
+pub returns-then-last-ne-CAP : goal.returns-then-last-ne-CAP
+returns-then-last-ne-CAP c = end_verdict_by _ _ (need-on _ _ (le-leb _ _ c.if-words-lt1.false) (need_stop _ _ (ne_eqb _ _ c.if-last-ne-CAP.true)))
 
 pub returns : goal.returns
-returns c = end_verdict_by _ _ (need-on _ _ (le-leb _ _ c.if-words-lt1.false) (need_stop _ _ (ne_eqb _ _ c.if-last-eq-CAP.false)))
+returns c = end_verdict_by _ _ (need-on _ _ (le-leb _ _ c.if-words-lt1.false) (need-on _ _ (eq-eqb _ _ c.if-last-ne-CAP.false) refl))

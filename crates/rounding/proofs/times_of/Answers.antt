@@ -1,3 +1,4 @@
+use Rattle.std.specs.Prelude.{Some}
 use Rattle.folds.specs.Kit.{◌≡◌, sym, ap, ◌∙◌, set, length-set, fold_call, rules, kit}
 use Rattle.folds.specs.Fold.{all-none, all_turn}
 use mir.Syntax.{w32}
@@ -5,19 +6,18 @@ use Rattle.arith.specs.Float.{at}
 use Rattle.ints.specs.Held.{called}
 use Rattle.rounding.specs.Lists.{time}
 use Rattle.rounding.specs.Laws.{at_is, off-is, time-small, times-off, times-on}
-use Rattle.rounding.specs.declared.Time.TheVariants.{At}
 use Rattle.rounding.proofs.times_of.Goals as goal
 
 pub loop-i-init : goal.loop-i-init
 loop-i-init c = (search rules, search rules, search kit, all-none _)
 
-pub returns-in_default : goal.returns-in_default
-returns-in_default c = times-off _ _ c.loop-i-test.true (off-is _ (sym c.time_of-t.ensures ∙ c.in_default.is))
+pub returns-in_err-times : goal.returns-in_err-times
+returns-in_err-times c = rw c.from_residual.ensures (times-off _ _ c.loop-i-test.true (off-is _ (sym c.time_of.ensures ∙ c.in_err-times.was)))
 
 pub loop-i-preserved : goal.loop-i-preserved
 loop-i-preserved c =
     let l = c.loop-i in
-    let told : time (at c.args.x.now l.i) ≡ At c.in-At.n = sym c.time_of-t.ensures ∙ c.in-At.is in
+    let told : time (at c.args.x.now l.i) ≡ Some c.in_ok-times.field-0 = sym c.time_of.ensures ∙ c.in_ok-times.was in
     let w = at_is _ told in (
       search rules,
       simp length-set l.invariant.1,

@@ -1,25 +1,30 @@
-use Rattle.folds.specs.Kit.{sym, ap, length-set, fold_call, kit}
+use Rattle.folds.specs.Kit.{refl, sym, ap, ◌∙◌, set, length-set, fold_call, arith, kit}
 use Rattle.arith.specs.Float.{fromℕ}
 use Rattle.block.specs.Block.{Word}
+use Rattle.format.specs.Structs.{word_of}
 use Rattle.format.specs.Entries.{words-length, word-is}
-use Rattle.word_numbers.specs.Numbers.{number_of}
+use Rattle.format.specs.Lent.{lent-words}
 use Rattle.word_numbers.specs.Words.{each_word}
 use Rattle.block_floats.specs.Entries.{filled_by}
 use Rattle.word_numbers.proofs.each_word.Goals as goal
 
 pub loop-i-preserved : goal.loop-i-preserved
-unfolding each_word
-loop-i-preserved c =
-    let t = c.loop-i in
-    (search kit, simp length-set t.invariant.1, fold_call _ _ _ t.invariant.2 (rw (c.nearest_u64_to_f64.ensures, c.number_of.ensures)))
+loop-i-preserved g c =
+    let l = c.loop-i in
+    let lent = lent-words c.requires.sound c.words-w-items.ensures in (
+      simp length-set l.invariant.0,
+      λ f gives. fold_call _ _ _ (l.invariant.1 f gives)
+          (ap (set l.y l.i) (c.nearest_u64_to_f64.ensures
+          ∙ ap fromℕ (gives _ _ (record { shown = _; shows = refl; says = record { met = c.number.ensures } }) ∙ ap (λ w. f (word_of w)) (lent.at _ c.loop-i-test.true)))),
+    )
 
 pub returns : goal.returns
 unfolding each_word
-returns c =
-    let t = c.loop-i in
-    filled_by _ _ _ _ _ _ (words-length c.requires.sound) (λ i l. ap (λ (w : Word). fromℕ (number_of c.args.which w)) (sym (word-is c.requires.sound l)))
-    t.invariant.0 c.loop-i-test.false c.requires.y_len t.invariant.2
+returns g c = λ f gives.
+    let l = c.loop-i in
+    let lent = lent-words c.requires.sound c.words-w-items.ensures in
+    filled_by _ _ _ _ _ _ (words-length c.requires.sound) (λ i k. ap (λ (w : Word). fromℕ (f w)) (sym (word-is c.requires.sound k)))
+    (omega (arith, l.auto.i-end, lent.long)) (omega (arith, c.loop-i-test.false, lent.long)) c.requires.y_len (l.invariant.1 f gives)
 
 pub loop-i-init : goal.loop-i-init
-unfolding each_word
-loop-i-init c = search kit
+loop-i-init g c = (refl, λ f gives. search kit)

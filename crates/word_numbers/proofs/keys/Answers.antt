@@ -1,7 +1,7 @@
-use Rattle.word_numbers.specs.Numbers.{number_of}
+use borrow.Author.Rules.{rules}
 use Rattle.word_numbers.specs.Words.{keys}
 use Rattle.word_numbers.proofs.keys.Goals as goal
 
 pub returns : goal.returns
-unfolding keys number_of
-returns c = c.each_word.ensures
+unfolding keys
+returns c = c.each_word.ensures (λ w. w.key) (λ w n r. search rules)

@@ -1,7 +1,7 @@
-use Rattle.word_numbers.specs.Numbers.{number_of}
+use borrow.Author.Rules.{rules}
 use Rattle.word_numbers.specs.Words.{lowers}
 use Rattle.word_numbers.proofs.lowers.Goals as goal
 
 pub returns : goal.returns
-unfolding lowers number_of
-returns c = c.each_word.ensures
+unfolding lowers
+returns c = c.each_word.ensures (λ w. w.lower) (λ w n r. search rules)

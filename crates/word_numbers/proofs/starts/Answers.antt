@@ -1,7 +1,7 @@
-use Rattle.word_numbers.specs.Numbers.{number_of}
+use borrow.Author.Rules.{rules}
 use Rattle.word_numbers.specs.Words.{starts}
 use Rattle.word_numbers.proofs.starts.Goals as goal
 
 pub returns : goal.returns
-unfolding starts number_of
-returns c = c.each_word.ensures
+unfolding starts
+returns c = c.each_word.ensures (λ w. w.start) (λ w n r. search rules)

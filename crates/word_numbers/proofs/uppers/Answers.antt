@@ -1,7 +1,7 @@
-use Rattle.word_numbers.specs.Numbers.{number_of}
+use borrow.Author.Rules.{rules}
 use Rattle.word_numbers.specs.Words.{uppers}
 use Rattle.word_numbers.proofs.uppers.Goals as goal
 
 pub returns : goal.returns
-unfolding uppers number_of
-returns c = c.each_word.ensures
+unfolding uppers
+returns c = c.each_word.ensures (λ w. w.upper) (λ w n r. search rules)
