@@ -13,6 +13,8 @@ ghost use Rattle.range_space.specs.Factored.{solve_factored};
 ghost use Rattle.probe.specs.Probe as Probe;
 ghost use Rattle.probe.specs.Hooks as Hooks;
 
+use scaled::System;
+
 #[unsafe(no_mangle)]
 pub extern "C" fn probe_sqrt(x: f64) -> f64
     ensures { result ≡ sqrt x }
@@ -294,7 +296,8 @@ fn solved(
 {
     let mut fx = [0.0; sizes::VARIABLES];
     let mut fm = [0.0; sizes::COLUMNS];
-    let found = range_space::solve_factored(l, k, c, e, b, n, m, noise, w, gram, &mut fx, &mut fm);
+    let system = System { k, c, e, b, n, m };
+    let found = range_space::solve_factored(l, &system, noise, w, gram, &mut fx, &mut fm);
     given(found, fx, fm, n, m, x, multipliers)
 }
 

@@ -2,467 +2,328 @@
 // 'Engine calls', and compares number, passes and every bit with the reference.
 #![tactic(auto)]
 
-ghost use Rattle.std.specs.Prelude.{◌≤◌, length};
+ghost use Rattle.std.specs.Prelude.{◌≤◌};
 
-use replay::{BEFORE, Cursor, Floats};
-use std::io;
-use std::io::Write;
+use replay::{BEFORE, Count, Record};
+use std::{fmt, io};
 
 // What the passes are before a call, and after a refusal.
 const PASSES: u64 = 123_456_789;
 
-// A record's call byte.
-const BOUNDED: usize = 1;
+// No slice of a record has more floats.
+const LONGEST: usize = 1152;
 
-const PIECEWISE: usize = 2;
-
-const CAPPED: usize = 3;
-
-// The slice at a place, or none where the call has none there.
-fn slice_if(has: bool, s: &[u8], at: usize, y: &mut [f64]) -> Floats
-    ensures { result.count ≤ length y.old }
-{
-    if has {
-        return replay::slice(s, at, y);
-    }
-    Floats { count: 0, at: at }
+#[derive(Clone, Copy, PartialEq, Eq)]
+enum Call {
+    Bounded,
+    Piecewise,
+    Capped,
 }
 
-// The float at a place, or, where the call has none there, the one that its number has before a call.
-fn float_if(has: bool, s: &[u8], at: usize) -> Cursor {
-    if has {
-        return replay::next(s, replay::start(at));
-    }
-    Cursor {
-        at: at,
-        last: BEFORE,
-        again: 0,
+// The call byte is that of no call.
+#[derive(Clone, Copy)]
+struct UnknownCall;
+
+impl TryFrom<u8> for Call {
+    type Error = UnknownCall;
+
+    fn try_from(byte: u8) -> Result<Call, UnknownCall> {
+        match byte {
+            1 => Ok(Call::Bounded),
+            2 => Ok(Call::Piecewise),
+            3 => Ok(Call::Capped),
+            _ => Err(UnknownCall),
+        }
     }
 }
 
-// What a call wrote, with the answer: x, the multipliers, the passes, and of the capped call the raise.
-fn compare_solved(
-    s: &[u8],
-    at: usize,
-    call: usize,
-    x: &[f64],
-    multipliers: &[f64],
-    passes: u64,
-    raise: f64,
-) -> usize {
-    let compared = replay::compare_slices(s, at, x, multipliers);
-    let counted = replay::one_if(replay::number32(s, compared.at) as u64 != passes);
-    let raised = float_if(call == CAPPED, s, replay::past(s, compared.at, 4));
-    let end = replay::one_if(raised.at < s.len());
-    let numbers = std::num::wrapping_add_usize(counted, replay::differs(raised.last, raise));
-    std::num::wrapping_add_usize(compared.differ, std::num::wrapping_add_usize(numbers, end))
-}
-
-fn compare_refused(
-    s: &[u8],
-    at: usize,
-    x: &[f64],
-    multipliers: &[f64],
-    passes: u64,
-    raise: f64,
-) -> usize {
-    let differ = replay::compare_refusal(s, at, x, multipliers);
-    let numbers = std::num::wrapping_add_usize(
-        replay::one_if(passes != PASSES),
-        replay::differs(raise, BEFORE),
-    );
-    std::num::wrapping_add_usize(differ, numbers)
-}
-
-// The call of a record's byte.
-fn solve(
-    call: usize,
-    q: &[f64],
-    c: &[f64],
-    e: &[f64],
-    b: &[f64],
-    lower: &[f64],
-    upper: &[f64],
-    a: &[f64],
-    row_lower: &[f64],
-    row_upper: &[f64],
-    at: &[f64],
-    slopes: &[f64],
-    start: &[f64],
-    cap: f64,
+// What a record says of its case. A bounded call has no kinks and slopes, and only a capped call has a cap.
+#[derive(Drop)]
+struct Problem<'a> {
     n: usize,
     m: usize,
     r: usize,
-    x: &mut [f64],
-    multipliers: &mut [f64],
-    passes: &mut u64,
-    raise: &mut f64,
-) -> u32 {
-    if call == CAPPED {
-        return cap::solve_turnover_capped(
-            q,
-            c,
-            e,
-            b,
-            lower,
-            upper,
-            a,
-            row_lower,
-            row_upper,
-            at,
-            slopes,
-            start,
-            cap,
-            n,
-            m,
-            r,
-            x,
-            multipliers,
-            passes,
-            raise,
-        );
-    }
-    if call == PIECEWISE {
-        return piecewise::solve_piecewise(
-            q,
-            c,
-            e,
-            b,
-            lower,
-            upper,
-            a,
-            row_lower,
-            row_upper,
-            at,
-            slopes,
-            start,
-            n,
-            m,
-            r,
-            x,
-            multipliers,
-            passes,
-        );
-    }
+    q: &'a [f64],
+    c: &'a [f64],
+    e: &'a [f64],
+    b: &'a [f64],
+    lower: &'a [f64],
+    upper: &'a [f64],
+    a: &'a [f64],
+    row_lower: &'a [f64],
+    row_upper: &'a [f64],
+    at: &'a [f64],
+    slopes: &'a [f64],
+    start: &'a [f64],
+    cap: f64,
+    ghost counts: { (n ≤ 255) × (m ≤ 255) × (r ≤ 255) },
+}
+
+// What a call writes.
+#[derive(Drop)]
+struct Answer<'a> {
+    x: &'a mut [f64],
+    multipliers: &'a mut [f64],
+    passes: u64,
+    raise: f64,
+}
+
+fn solve_bounded(p: &Problem, answer: &mut Answer) -> u32 {
     piecewise::solve_bounded(
-        q,
-        c,
-        e,
-        b,
-        lower,
-        upper,
-        a,
-        row_lower,
-        row_upper,
-        start,
-        n,
-        m,
-        r,
-        x,
-        multipliers,
-        passes,
+        p.q,
+        p.c,
+        p.e,
+        p.b,
+        p.lower,
+        p.upper,
+        p.a,
+        p.row_lower,
+        p.row_upper,
+        p.start,
+        p.n,
+        p.m,
+        p.r,
+        answer.x,
+        answer.multipliers,
+        &mut answer.passes,
     )
 }
 
-// How many numbers of a case come out otherwise; what follows the outcome in the record s begins at a place.
-fn compare(
-    s: &[u8],
-    place: usize,
-    outcome: usize,
-    call: usize,
-    q: &[f64],
-    c: &[f64],
-    e: &[f64],
-    b: &[f64],
-    lower: &[f64],
-    upper: &[f64],
-    a: &[f64],
-    row_lower: &[f64],
-    row_upper: &[f64],
-    at: &[f64],
-    slopes: &[f64],
-    start: &[f64],
-    cap: f64,
-    n: usize,
-    m: usize,
-    r: usize,
-    x: &mut [f64],
-    multipliers: &mut [f64],
-) -> usize {
-    let mut passes = PASSES;
-    let mut raise = BEFORE;
-    let number = solve(
-        call,
-        q,
-        c,
-        e,
-        b,
-        lower,
-        upper,
-        a,
-        row_lower,
-        row_upper,
-        at,
-        slopes,
-        start,
-        cap,
-        n,
-        m,
-        r,
-        x,
-        multipliers,
-        &mut passes,
-        &mut raise,
-    );
-    if number as usize != outcome {
-        return 1;
+fn solve_piecewise(p: &Problem, answer: &mut Answer) -> u32 {
+    piecewise::solve_piecewise(
+        p.q,
+        p.c,
+        p.e,
+        p.b,
+        p.lower,
+        p.upper,
+        p.a,
+        p.row_lower,
+        p.row_upper,
+        p.at,
+        p.slopes,
+        p.start,
+        p.n,
+        p.m,
+        p.r,
+        answer.x,
+        answer.multipliers,
+        &mut answer.passes,
+    )
+}
+
+fn solve_turnover_capped(p: &Problem, answer: &mut Answer) -> u32 {
+    cap::solve_turnover_capped(
+        p.q,
+        p.c,
+        p.e,
+        p.b,
+        p.lower,
+        p.upper,
+        p.a,
+        p.row_lower,
+        p.row_upper,
+        p.at,
+        p.slopes,
+        p.start,
+        p.cap,
+        p.n,
+        p.m,
+        p.r,
+        answer.x,
+        answer.multipliers,
+        &mut answer.passes,
+        &mut answer.raise,
+    )
+}
+
+impl Call {
+    fn solve(self, problem: &Problem, answer: &mut Answer) -> u32 {
+        match self {
+            Call::Bounded => solve_bounded(problem, answer),
+            Call::Piecewise => solve_piecewise(problem, answer),
+            Call::Capped => solve_turnover_capped(problem, answer),
+        }
     }
-    if outcome == 0 {
-        return compare_solved(s, place, call, &x[..], &multipliers[..], passes, raise);
+
+    // The kinks or the slopes, where the call has some.
+    fn kinks<'b>(self, record: &mut Record, y: &'b mut [f64]) -> &'b [f64] {
+        match self {
+            Call::Bounded => &[],
+            _ => record.slice(y),
+        }
     }
-    compare_refused(s, place, &x[..], &multipliers[..], passes, raise)
+
+    // The cap or the raise; where the call has none, what the raise is before a call.
+    fn number(self, record: &mut Record) -> f64 {
+        match self {
+            Call::Capped => record.float(),
+            _ => BEFORE,
+        }
+    }
+
+    // How much of what the call wrote is not in the rest of the record.
+    fn compare_solved(self, mut record: Record, answer: &Answer) -> usize {
+        let differ = record.compare_slices(answer.x, answer.multipliers);
+        let passes = u64::from(record.u32());
+        let raise = self.number(&mut record);
+        differ
+            .wrapping_add(usize::from(passes != answer.passes))
+            .wrapping_add(usize::from(replay::differs(raise, answer.raise)))
+            .wrapping_add(usize::from(!record.is_at_end()))
+    }
+}
+
+// How much a refusal has written; the record ends with the outcome.
+fn compare_refused(record: &Record, answer: &Answer) -> usize {
+    record
+        .compare_refusal(answer.x, answer.multipliers)
+        .wrapping_add(usize::from(answer.passes != PASSES))
+        .wrapping_add(usize::from(replay::differs(answer.raise, BEFORE)))
 }
 
 // A record's outcome, and how many numbers differ.
-#[derive(Drop)]
+#[derive(Clone, Copy)]
 struct Replayed {
-    outcome: usize,
+    outcome: u8,
     differ: usize,
 }
 
-// The rest of a record, from the kinks on, and the case.
-fn run_kinks(
-    s: &[u8],
-    kinks: usize,
-    call: usize,
-    q: &[f64],
-    c: &[f64],
-    e: &[f64],
-    b: &[f64],
-    lower: &[f64],
-    upper: &[f64],
-    a: &[f64],
-    row_lower: &[f64],
-    row_upper: &[f64],
-) -> Replayed {
-    let mut at = [0.0; 1152];
-    let mut slopes = [0.0; 1152];
-    let mut start = [0.0; 1152];
+// Calls, and compares with what the record ends with.
+fn compare(mut record: Record, call: Call, problem: &Problem) -> Replayed {
     let mut x = [BEFORE; 255];
     let mut multipliers = [BEFORE; 510];
-    let first = slice_if(call != BOUNDED, s, kinks, &mut at);
-    let second = slice_if(call != BOUNDED, s, first.at, &mut slopes);
-    let third = replay::slice(s, second.at, &mut start);
-    let cap = float_if(call == CAPPED, s, third.at);
-    let outcome = replay::byte(s, cap.at);
-    let place = replay::past(s, cap.at, 1);
-    let n = replay::byte(s, 1);
-    let m = replay::byte(s, 2);
-    let r = replay::byte(s, 3);
-    let w = m + r;
-    let i = first.count;
-    let j = second.count;
-    let k = third.count;
-    let differ = compare(
-        s,
-        place,
-        outcome,
-        call,
-        q,
-        c,
-        e,
-        b,
-        lower,
-        upper,
-        a,
-        row_lower,
-        row_upper,
-        &at[..i],
-        &slopes[..j],
-        &start[..k],
-        cap.last,
-        n,
-        m,
-        r,
-        &mut x[..n],
-        &mut multipliers[..w],
-    );
-    Replayed {
-        outcome: outcome,
-        differ: differ,
+    let outcome = record.byte();
+    let mut answer = Answer {
+        x: &mut x[..problem.n],
+        multipliers: &mut multipliers[..problem.m + problem.r],
+        passes: PASSES,
+        raise: BEFORE,
+    };
+    let number = call.solve(problem, &mut answer);
+    let differ = if number != u32::from(outcome) {
+        1
+    } else if outcome == 0 {
+        call.compare_solved(record, &answer)
+    } else {
+        compare_refused(&record, &answer)
+    };
+    Replayed { outcome, differ }
+}
+
+fn run(mut record: Record, call: Call) -> Replayed {
+    let mut q = [0.0; LONGEST];
+    let mut c = [0.0; LONGEST];
+    let mut e = [0.0; LONGEST];
+    let mut b = [0.0; LONGEST];
+    let mut lower = [0.0; LONGEST];
+    let mut upper = [0.0; LONGEST];
+    let mut a = [0.0; LONGEST];
+    let mut row_lower = [0.0; LONGEST];
+    let mut row_upper = [0.0; LONGEST];
+    let mut at = [0.0; LONGEST];
+    let mut slopes = [0.0; LONGEST];
+    let mut start = [0.0; LONGEST];
+    let problem = Problem {
+        n: usize::from(record.byte()),
+        m: usize::from(record.byte()),
+        r: usize::from(record.byte()),
+        q: record.slice(&mut q),
+        c: record.slice(&mut c),
+        e: record.slice(&mut e),
+        b: record.slice(&mut b),
+        lower: record.slice(&mut lower),
+        upper: record.slice(&mut upper),
+        a: record.slice(&mut a),
+        row_lower: record.slice(&mut row_lower),
+        row_upper: record.slice(&mut row_upper),
+        at: call.kinks(&mut record, &mut at),
+        slopes: call.kinks(&mut record, &mut slopes),
+        start: record.slice(&mut start),
+        cap: call.number(&mut record),
+    };
+    compare(record, call, &problem)
+}
+
+// How the cases of a call came out. An outcome that the calls don't have is counted nowhere; its case differs.
+#[derive(Clone, Copy, Default)]
+struct Tally {
+    cases: u64,
+    differing: u64,
+    solved: u64,
+    wrong_shape: u64,
+    blank_bound: u64,
+    not_finite: u64,
+    singular: u64,
+    unbounded: u64,
+    not_converged: u64,
+}
+
+impl Tally {
+    fn count(&mut self, replayed: Replayed) {
+        replay::add(&mut self.cases, 1);
+        replay::add(&mut self.differing, u64::from(replayed.differ > 0));
+        match replayed.outcome {
+            0 => replay::add(&mut self.solved, 1),
+            9 => replay::add(&mut self.wrong_shape, 1),
+            10 => replay::add(&mut self.blank_bound, 1),
+            11 => replay::add(&mut self.not_finite, 1),
+            12 => replay::add(&mut self.singular, 1),
+            13 => replay::add(&mut self.unbounded, 1),
+            14 => replay::add(&mut self.not_converged, 1),
+            _ => {}
+        }
     }
 }
 
-// The same from the bounds on.
-fn run_bounds(
-    s: &[u8],
-    bounds: usize,
-    call: usize,
-    q: &[f64],
-    c: &[f64],
-    e: &[f64],
-    b: &[f64],
-) -> Replayed {
-    let mut lower = [0.0; 1152];
-    let mut upper = [0.0; 1152];
-    let mut a = [0.0; 1152];
-    let mut row_lower = [0.0; 1152];
-    let mut row_upper = [0.0; 1152];
-    let first = replay::slice(s, bounds, &mut lower);
-    let second = replay::slice(s, first.at, &mut upper);
-    let third = replay::slice(s, second.at, &mut a);
-    let fourth = replay::slice(s, third.at, &mut row_lower);
-    let fifth = replay::slice(s, fourth.at, &mut row_upper);
-    let i = first.count;
-    let j = second.count;
-    let k = third.count;
-    let l = fourth.count;
-    let o = fifth.count;
-    run_kinks(
-        s,
-        fifth.at,
-        call,
-        q,
-        c,
-        e,
-        b,
-        &lower[..i],
-        &upper[..j],
-        &a[..k],
-        &row_lower[..l],
-        &row_upper[..o],
-    )
-}
-
-fn run(s: &[u8], call: usize) -> Replayed {
-    let mut q = [0.0; 1152];
-    let mut c = [0.0; 1152];
-    let mut e = [0.0; 1152];
-    let mut b = [0.0; 1152];
-    let first = replay::slice(s, 4, &mut q);
-    let second = replay::slice(s, first.at, &mut c);
-    let third = replay::slice(s, second.at, &mut e);
-    let fourth = replay::slice(s, third.at, &mut b);
-    let i = first.count;
-    let j = second.count;
-    let k = third.count;
-    let l = fourth.count;
-    run_bounds(s, fourth.at, call, &q[..i], &c[..j], &e[..k], &b[..l])
-}
-
-// Places of a call's tally.
-const CASES: usize = 0;
-
-const DIFFERING: usize = 1;
-
-const SOLVED: usize = 2;
-
-const WRONG_SHAPE: usize = 3;
-
-const BLANK_BOUND: usize = 4;
-
-const NOT_FINITE: usize = 5;
-
-const SINGULAR: usize = 6;
-
-const UNBOUNDED: usize = 7;
-
-const NOT_CONVERGED: usize = 8;
-
-// Past a tally's end.
-const NOWHERE: usize = 9;
-
-// An outcome that the calls don't have is counted nowhere; its case differs.
-fn place(outcome: usize) -> usize {
-    match outcome {
-        0 => SOLVED,
-        9 => WRONG_SHAPE,
-        10 => BLANK_BOUND,
-        11 => NOT_FINITE,
-        12 => SINGULAR,
-        13 => UNBOUNDED,
-        14 => NOT_CONVERGED,
-        _ => NOWHERE,
+impl fmt::Display for Tally {
+    fn fmt<W: fmt::Write>(&self, f: &mut fmt::Formatter<W>) -> fmt::Result {
+        writeln!(f, "{}", self.cases)?;
+        writeln!(f, "solved {}", self.solved)?;
+        writeln!(f, "wrong shape {}", self.wrong_shape)?;
+        writeln!(f, "blank bound {}", self.blank_bound)?;
+        writeln!(f, "not finite {}", self.not_finite)?;
+        writeln!(f, "singular {}", self.singular)?;
+        writeln!(f, "unbounded {}", self.unbounded)?;
+        writeln!(f, "not converged {}", self.not_converged)?;
+        write!(f, "differing {}", self.differing)
     }
 }
 
-fn count(tally: &mut [u64], r: Replayed) {
-    replay::add(tally, CASES, 1);
-    replay::add(tally, place(r.outcome), 1);
-    replay::add(tally, DIFFERING, replay::one_if(r.differ > 0) as u64);
+// The tallies of the three calls, and how many records are of no call of these, which differ.
+#[derive(Clone, Copy, Default)]
+struct Tallies {
+    bounded: Tally,
+    piecewise: Tally,
+    capped: Tally,
+    unknown: u64,
 }
 
-// Counts a record in the tally of its call; a record of no call of these differs.
-fn count_record(
-    s: &[u8],
-    bounded: &mut [u64],
-    piecewise: &mut [u64],
-    capped: &mut [u64],
-    unknown: &mut [u64],
-) {
-    let call = replay::byte(s, 0);
-    if call == BOUNDED {
-        count(bounded, run(s, call));
-        return;
+impl Count for Tallies {
+    fn count(&mut self, mut record: Record) {
+        match Call::try_from(record.byte()) {
+            Ok(call) => self.of(call).count(run(record, call)),
+            Err(UnknownCall) => replay::add(&mut self.unknown, 1),
+        }
     }
-    if call == PIECEWISE {
-        count(piecewise, run(s, call));
-        return;
-    }
-    if call == CAPPED {
-        count(capped, run(s, call));
-        return;
-    }
-    replay::add(unknown, CASES, 1);
-    replay::add(unknown, DIFFERING, 1);
 }
 
-fn report_call<W: Write>(out: &mut W, name: &[u8], tally: [u64; 9]) -> io::Result<()> {
-    replay::line(out, name, tally[CASES])?;
-    replay::line(out, b"solved ", tally[SOLVED])?;
-    replay::line(out, b"wrong shape ", tally[WRONG_SHAPE])?;
-    replay::line(out, b"blank bound ", tally[BLANK_BOUND])?;
-    replay::line(out, b"not finite ", tally[NOT_FINITE])?;
-    replay::line(out, b"singular ", tally[SINGULAR])?;
-    replay::line(out, b"unbounded ", tally[UNBOUNDED])?;
-    replay::line(out, b"not converged ", tally[NOT_CONVERGED])?;
-    replay::line(out, b"differing ", tally[DIFFERING])
-}
-
-fn report<W: Write>(
-    out: &mut W,
-    bounded: [u64; 9],
-    piecewise: [u64; 9],
-    capped: [u64; 9],
-    unknown: [u64; 2],
-) -> io::Result<()> {
-    report_call(out, b"bounded ", bounded)?;
-    report_call(out, b"piecewise ", piecewise)?;
-    report_call(out, b"capped ", capped)?;
-    replay::line(out, b"unknown call ", unknown[CASES])?;
-    replay::line(out, b"differing ", unknown[DIFFERING])
+impl Tallies {
+    fn of(&mut self, call: Call) -> &mut Tally {
+        match call {
+            Call::Bounded => &mut self.bounded,
+            Call::Piecewise => &mut self.piecewise,
+            Call::Capped => &mut self.capped,
+        }
+    }
 }
 
 fn main(rt: HostRuntime) -> io::Result<()> {
-    let mut input = rt.reader();
-    let mut bounded = [0u64; 9];
-    let mut piecewise = [0u64; 9];
-    let mut capped = [0u64; 9];
-    let mut unknown = [0u64; 2];
-    let mut body = [0u8; 16000];
-    for _ in 0..1000000usize {
-        let n = replay::record(&mut input, &mut body)?;
-        if n > body.len() {
-            break;
-        }
-        count_record(
-            &body[..n],
-            &mut bounded,
-            &mut piecewise,
-            &mut capped,
-            &mut unknown,
-        );
-    }
-    let mut out = io::writer(&rt);
-    report(&mut out, bounded, piecewise, capped, unknown)
+    let mut tallies = Tallies::default();
+    replay::count_records::<16000, _, _>(&mut rt.reader(), &mut tallies)?;
+    println!(rt; "bounded {}", tallies.bounded)?;
+    println!(rt; "piecewise {}", tallies.piecewise)?;
+    println!(rt; "capped {}", tallies.capped)?;
+    println!(rt; "unknown call {}", tallies.unknown)?;
+    println!(rt; "differing {}", tallies.unknown)
 }

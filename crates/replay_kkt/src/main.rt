@@ -2,132 +2,95 @@
 // number and every bit with the reference.
 #![tactic(auto)]
 
-use std::io;
-use std::io::Write;
+use replay::{BEFORE, Count, Record};
+use std::{fmt, io};
 
-// How many floats of a case come out otherwise; what follows the outcome in the record s begins at a place.
-fn compare(
-    s: &[u8],
-    at: usize,
-    outcome: usize,
-    n: usize,
-    m: usize,
-    k: &[f64],
-    c: &[f64],
-    e: &[f64],
-    b: &[f64],
-    x: &mut [f64],
-    multipliers: &mut [f64],
-) -> usize {
-    let number = kkt::solve_kkt(k, c, e, b, n, m, x, multipliers);
-    if number as usize != outcome {
-        return 1;
-    }
-    if outcome == 0 {
-        return replay::compare_answer(s, at, &x[..], &multipliers[..]);
-    }
-    replay::compare_refusal(s, at, &x[..], &multipliers[..])
-}
+// No slice of a record has more floats.
+const LONGEST: usize = 1152;
 
 // A record's outcome, and how many floats differ.
-#[derive(Drop)]
+#[derive(Clone, Copy)]
 struct Replayed {
-    outcome: usize,
+    outcome: u8,
     differ: usize,
 }
 
-fn run(s: &[u8]) -> Replayed {
-    let mut k = [0.0; 1152];
-    let mut c = [0.0; 1152];
-    let mut e = [0.0; 1152];
-    let mut b = [0.0; 1152];
-    let mut x = [replay::BEFORE; 255];
-    let mut multipliers = [replay::BEFORE; 255];
-    let first = replay::slice(s, 4, &mut k);
-    let second = replay::slice(s, first.at, &mut c);
-    let third = replay::slice(s, second.at, &mut e);
-    let fourth = replay::slice(s, third.at, &mut b);
-    let outcome = replay::byte(s, fourth.at);
-    let at = replay::past(s, fourth.at, 1);
-    let n = replay::byte(s, 1);
-    let m = replay::byte(s, 2);
-    let i = first.count;
-    let j = second.count;
-    let l = third.count;
-    let o = fourth.count;
-    let differ = compare(
-        s,
-        at,
-        outcome,
-        n,
-        m,
-        &k[..i],
-        &c[..j],
-        &e[..l],
-        &b[..o],
-        &mut x[..n],
-        &mut multipliers[..m],
-    );
+fn run(mut record: Record) -> Replayed {
+    let mut k = [0.0; LONGEST];
+    let mut c = [0.0; LONGEST];
+    let mut e = [0.0; LONGEST];
+    let mut b = [0.0; LONGEST];
+    let mut x = [BEFORE; 255];
+    let mut multipliers = [BEFORE; 255];
+    let other_call = record.byte() != 0;
+    let n = usize::from(record.byte());
+    let m = usize::from(record.byte());
+    record.byte();
+    let k = record.slice(&mut k);
+    let c = record.slice(&mut c);
+    let e = record.slice(&mut e);
+    let b = record.slice(&mut b);
+    let outcome = record.byte();
+    let x = &mut x[..n];
+    let multipliers = &mut multipliers[..m];
+    let number = kkt::solve_kkt(k, c, e, b, n, m, x, multipliers);
+    let differ = if number != u32::from(outcome) {
+        1
+    } else if outcome == 0 {
+        record.compare_answer(x, multipliers)
+    } else {
+        record.compare_refusal(x, multipliers)
+    };
     Replayed {
-        outcome: outcome,
-        differ: std::num::wrapping_add_usize(differ, replay::one_if(replay::byte(s, 0) != 0)),
+        outcome,
+        differ: differ.wrapping_add(usize::from(other_call)),
     }
 }
 
-// Places of the tally.
-const RECORDS: usize = 0;
+// How the cases came out.
+#[derive(Clone, Copy, Default)]
+struct Tally {
+    solved: u64,
+    wrong_shape: u64,
+    not_finite: u64,
+    singular: u64,
+    no_optimum: u64,
+    records: u64,
+    differences: u64,
+}
 
-const DIFFERENCES: usize = 1;
-
-const SOLVED: usize = 2;
-
-const WRONG_SHAPE: usize = 3;
-
-const NOT_FINITE: usize = 4;
-
-const SINGULAR: usize = 5;
-
-const NO_OPTIMUM: usize = 6;
-
-// An outcome that the call doesn't have is a difference.
-fn place(outcome: usize) -> usize {
-    match outcome {
-        0 => SOLVED,
-        9 => WRONG_SHAPE,
-        11 => NOT_FINITE,
-        12 => SINGULAR,
-        100 => NO_OPTIMUM,
-        _ => DIFFERENCES,
+impl Count for Tally {
+    // An outcome that the call doesn't have is a difference.
+    fn count(&mut self, record: Record) {
+        let replayed = run(record);
+        replay::add(&mut self.records, 1);
+        replay::add(&mut self.differences, replayed.differ as u64);
+        let outcomes = match replayed.outcome {
+            0 => &mut self.solved,
+            9 => &mut self.wrong_shape,
+            11 => &mut self.not_finite,
+            12 => &mut self.singular,
+            100 => &mut self.no_optimum,
+            _ => &mut self.differences,
+        };
+        replay::add(outcomes, 1);
     }
 }
 
-fn count(tally: &mut [u64], r: Replayed) {
-    replay::add(tally, RECORDS, 1);
-    replay::add(tally, place(r.outcome), 1);
-    replay::add(tally, DIFFERENCES, r.differ as u64);
-}
-
-fn report<W: Write>(out: &mut W, tally: [u64; 7]) -> io::Result<()> {
-    replay::line(out, b"solved ", tally[SOLVED])?;
-    replay::line(out, b"wrong shape ", tally[WRONG_SHAPE])?;
-    replay::line(out, b"not finite ", tally[NOT_FINITE])?;
-    replay::line(out, b"singular ", tally[SINGULAR])?;
-    replay::line(out, b"no optimum ", tally[NO_OPTIMUM])?;
-    replay::line(out, b"records ", tally[RECORDS])?;
-    replay::line(out, b"differences ", tally[DIFFERENCES])
+impl fmt::Display for Tally {
+    fn fmt<W: fmt::Write>(&self, f: &mut fmt::Formatter<W>) -> fmt::Result {
+        writeln!(f, "solved {}", self.solved)?;
+        writeln!(f, "wrong shape {}", self.wrong_shape)?;
+        writeln!(f, "not finite {}", self.not_finite)?;
+        writeln!(f, "singular {}", self.singular)?;
+        writeln!(f, "no optimum {}", self.no_optimum)?;
+        writeln!(f, "records {}", self.records)?;
+        write!(f, "differences {}", self.differences)
+    }
 }
 
 fn main(rt: HostRuntime) -> io::Result<()> {
-    let mut input = rt.reader();
-    let mut tally = [0u64; 7];
-    let mut body = [0u8; 16000];
-    for _ in 0..1000000usize {
-        let n = replay::record(&mut input, &mut body)?;
-        if n > body.len() {
-            break;
-        }
-        count(&mut tally, run(&body[..n]));
-    }
-    let mut out = io::writer(&rt);
-    report(&mut out, tally)
+    let mut tally = Tally::default();
+    replay::count_records::<16000, _, _>(&mut rt.reader(), &mut tally)?;
+    println!(rt; "{tally}")
 }

@@ -1,150 +1,94 @@
 // Places the stored blocks of standard input again, in the format of docs/CASES.md, 'Blocks', and compares every byte with the reference.
 #![tactic(auto)]
 
-use std::io;
-use std::io::Write;
+use replay::{Count, Record};
+use std::{fmt, io};
 
 // What the slice holds before a call, and more bytes than any answer has.
 const BEFORE: u8 = 165;
 
 const ROOM: usize = 4096;
 
-// What `written` holds before a call.
-const UNWRITTEN: u64 = 271828182845;
+// How many bytes are not BEFORE.
+fn changed(slice: &[u8]) -> usize {
+    slice.iter().filter(|b| **b != BEFORE).count()
+}
 
-// How many bytes of a from a place on are not BEFORE.
-fn changed_from(a: &[u8], at: usize) -> usize {
+// How many bytes are not those that come next.
+fn differing(record: &mut Record, bytes: &[u8]) -> u64 {
     let mut differ = 0;
-    for i in at..a.len() {
-        if a[i] == BEFORE {} else {
-            differ = std::num::wrapping_add_usize(differ, 1);
-        }
+    for b in bytes {
+        replay::add(&mut differ, u64::from(*b != record.byte()));
     }
     differ
 }
 
-// How many of the first n bytes of a are not those of s from a place on.
-fn differing(a: &[u8], n: usize, s: &[u8], at: usize) -> usize {
-    let mut differ = 0;
-    for i in 0..n {
-        if replay::byte(a, i) == replay::byte(s, replay::past(s, at, i)) {} else {
-            differ = std::num::wrapping_add_usize(differ, 1);
-        }
-    }
-    differ
-}
-
-// How much of an answer, whose length and bytes stand at a place, is not in the slice.
-fn compare_answer(slice: &[u8], written: u64, s: &[u8], at: usize) -> usize {
-    let n = replay::number16(s, at);
-    if n > slice.len() {
-        return 1;
-    }
-    let differ = replay::one_if(written != n as u64);
-    let front = differing(slice, n, s, replay::past(s, at, 2));
-    let rest = changed_from(slice, n);
-    std::num::wrapping_add_usize(differ, std::num::wrapping_add_usize(front, rest))
-}
-
-// A call, and how much of what it leaves differs from the record, whose outcome stands at a place.
-fn compare(block: &[u8], slice: &mut [u8], s: &[u8], at: usize) -> usize {
-    let mut written = UNWRITTEN;
-    let number = service::place(block, slice, &mut written);
-    let said = replay::byte(s, at);
-    let differ = replay::one_if(number as usize != said);
-    if said == 0 {
-        let more = compare_answer(slice, written, s, replay::past(s, at, 1));
-        return std::num::wrapping_add_usize(differ, more);
-    }
-    let touched = std::num::wrapping_add_usize(
-        changed_from(slice, 0),
-        replay::one_if(written != UNWRITTEN),
-    );
-    std::num::wrapping_add_usize(differ, touched)
-}
-
-// What a record says, and how much of it differs.
-#[derive(Drop)]
-struct Replayed {
-    outcome: usize,
-    differ: usize,
-}
-
-// The record s, whose block is its bytes from 2 to e.
-fn record_in(s: &[u8], block: &[u8], e: usize) -> Replayed {
-    let mut slice = [BEFORE; ROOM];
-    let room = replay::number16(s, e);
-    let at = replay::past(s, e, 2);
-    let outcome = replay::byte(s, at);
-    if room > ROOM {
-        return Replayed {
-            outcome: outcome,
-            differ: 1,
-        };
-    }
-    let differ = compare(block, &mut slice[..room], s, at);
-    Replayed {
-        outcome: outcome,
-        differ: differ,
+// How much of an answer, whose length and bytes come next, is not in the slice, where one of `written` bytes was given.
+fn answer_differing(record: &mut Record, slice: &[u8], written: Option<usize>) -> u64 {
+    let n = usize::from(record.u16());
+    match slice.split_at_checked(n) {
+        None => 1,
+        Some((front, rest)) => u64::from(written != Some(n))
+            .wrapping_add(differing(record, front))
+            .wrapping_add(changed(rest) as u64),
     }
 }
 
-fn record(s: &[u8]) -> Replayed {
-    let n = replay::number16(s, 0);
-    if s.len() < 2 {
-        return Replayed {
-            outcome: 0,
-            differ: 1,
-        };
+// A call, and how much of what it leaves differs from the record, which goes on with the outcome.
+fn place_differing(record: &mut Record, block: &[u8], outcome: u8, slice: &mut [u8]) -> u64 {
+    let placed = service::place(block, slice);
+    let (number, written) = match placed {
+        Ok(n) => (0, Some(n)),
+        Err(refusal) => (u32::from(refusal), None),
+    };
+    let differ = u64::from(number != u32::from(outcome));
+    if outcome == 0 {
+        differ.wrapping_add(answer_differing(record, slice, written))
+    } else {
+        differ
+            .wrapping_add(changed(slice) as u64)
+            .wrapping_add(u64::from(written.is_some()))
     }
-    if n > s.len() - 2 {
-        return Replayed {
-            outcome: 0,
-            differ: 1,
-        };
-    }
-    let e = n + 2;
-    record_in(s, &s[2..e], e)
 }
 
-#[derive(Clone, Copy)]
+// A record that ends before its block does differs, and is counted as placed.
+#[derive(Clone, Copy, Default)]
 struct Tally {
     blocks: u64,
     placed: u64,
-    differ: u64,
+    differences: u64,
 }
 
-fn with_record(t: Tally, r: Replayed) -> Tally {
-    let mut next = t;
-    next.blocks = std::num::wrapping_add_u64(t.blocks, 1);
-    next.differ = std::num::wrapping_add_u64(t.differ, r.differ as u64);
-    if r.outcome == 0 {
-        next.placed = std::num::wrapping_add_u64(t.placed, 1);
+impl Count for Tally {
+    fn count(&mut self, mut record: Record) {
+        replay::add(&mut self.blocks, 1);
+        let Some(block) = record.block() else {
+            replay::add(&mut self.placed, 1);
+            replay::add(&mut self.differences, 1);
+            return;
+        };
+        let mut room = [BEFORE; ROOM];
+        let n = usize::from(record.u16());
+        let outcome = record.byte();
+        let differ = match room.get_mut(..n) {
+            Some(slice) => place_differing(&mut record, block, outcome, slice),
+            None => 1,
+        };
+        replay::add(&mut self.placed, u64::from(outcome == 0));
+        replay::add(&mut self.differences, differ);
     }
-    next
 }
 
-fn report<W: Write>(out: &mut W, t: Tally) -> io::Result<()> {
-    replay::line(out, b"blocks ", t.blocks)?;
-    replay::line(out, b"placed ", t.placed)?;
-    replay::line(out, b"differences ", t.differ)
+impl fmt::Display for Tally {
+    fn fmt<W: fmt::Write>(&self, f: &mut fmt::Formatter<W>) -> fmt::Result {
+        writeln!(f, "blocks {}", self.blocks)?;
+        writeln!(f, "placed {}", self.placed)?;
+        write!(f, "differences {}", self.differences)
+    }
 }
 
 fn main(rt: HostRuntime) -> io::Result<()> {
-    let mut input = rt.reader();
-    let mut tally = Tally {
-        blocks: 0,
-        placed: 0,
-        differ: 0,
-    };
-    let mut body = [0u8; 16000];
-    for _ in 0..1000000usize {
-        let n = replay::record(&mut input, &mut body)?;
-        if n > body.len() {
-            break;
-        }
-        tally = with_record(tally, record(&body[..n]));
-    }
-    let mut out = io::writer(&rt);
-    report(&mut out, tally)
+    let mut tally = Tally::default();
+    replay::count_records::<16000, _, _>(&mut rt.reader(), &mut tally)?;
+    println!(rt; "{tally}")
 }

@@ -7,22 +7,7 @@ pub solve_factored-found-requires : goal.solve_factored-found-requires
 solve_factored-found-requires c =
     let p = c.requires in
     let h = p.0 in
-    let v = p.1 in (
-      record {
-        few = h.few;
-        columns = h.columns;
-        k_holds = omega (arith, h.curvature);
-        c_holds = omega (arith, v.right);
-        e_holds = omega (arith, h.constraints);
-        b_holds = omega (arith, v.below);
-      },
-      omega (arith, h.factor),
-      p.2,
-      omega (arith, h.whitened),
-      omega (arith, h.gram),
-      omega (arith, h.few),
-      h.columns,
-    )
+    (omega (arith, h.factor), p.2, omega (arith, h.whitened), omega (arith, h.gram), omega (arith, h.few), h.columns)
 
 pub given-requires : goal.given-requires
 unfolding answered

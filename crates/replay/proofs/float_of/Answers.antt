@@ -1,6 +1,6 @@
 use lib.Ieee.{binary64}
 use lib.Ieee.Bits.{nan_bits_above}
-use Rattle.std.proofs.Common.{rules, le-ltb}
+use Rattle.std.proofs.Common.{le-ltb}
 use Rattle.replay.proofs.float_of.Goals as goal
 
 pub float_from_bits-result : goal.float_from_bits-result

@@ -1,5 +1,0 @@
-use Rattle.std.proofs.Common.{◌≡◌, ◌-◌, ◌≤◌, length, sym, arith, length-take-le, rules}
-use Rattle.replay_kkt.proofs.main.Given as goal
-
-abbrev pub invariant-loop : goal.invariant-loop
-invariant-loop l = (l.counter ≤ 1000000) × (16000 ≡ length l.body) × (7 ≡ length l.tally)
