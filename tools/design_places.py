@@ -24,7 +24,7 @@ def sources(root):
 
 def functions(text):
     """(name, parameters, clauses, body) of each function."""
-    for m in re.finditer(r"^\s*(?:pub )?(?:extern \"C\" )?fn (\w+)(?:<[^>]*>)?\(", text, re.M):
+    for m in re.finditer(r"^\s*(?:pub )?(?:extern \"C\" )?fn (\w+)(?:<(?:->|[^>])*>)?\(", text, re.M):
         depth, i = 1, m.end()
         while depth:
             depth += {"(": 1, ")": -1}.get(text[i], 0)

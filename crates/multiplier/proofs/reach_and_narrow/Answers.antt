@@ -4,7 +4,7 @@ use Rattle.bracket.specs.Ends.{rising-held, held-rising}
 use Rattle.search_step.specs.Step.{ended_of}
 use Rattle.search_step.specs.Laws.{ended-ok, ended-err}
 use Rattle.multiplier.specs.Ends.{reached-held}
-use Rattle.multiplier.specs.Laws.{then-narrowed, passed-on}
+use Rattle.multiplier.specs.Laws.{then-narrowed, error-passed}
 use Rattle.multiplier.proofs.reach_and_narrow.Goals as goal
 
 pub narrow-requires : goal.narrow-requires
@@ -20,4 +20,4 @@ returns c =
 pub returns-in_err-found : goal.returns-in_err-found
 returns-in_err-found c =
     let p = err_from_is_err_and c.from_residual.result c.from_residual.ensures.1 in
-    rw (p.1, p.2) (ended-err _ _ _ ∙ passed-on _ _ _ (sym (ended-err _ _ _) ∙ (rw c.in_err-found.was at c.reach.ensures)))
+    rw (p.1, p.2) (ended-err _ _ _ ∙ error-passed _ _ _ (sym (ended-err _ _ _) ∙ (rw c.in_err-found.was at c.reach.ensures)))
