@@ -7,7 +7,7 @@ use Rattle.format.specs.Read
 use Rattle.format.specs.Read.{Verdict, Outcome, block, refused, number, accepted, need, after, first_of, pair_verdict, list_verdict, word_verdict, tempo_verdict, anchor_verdict, span_verdict, cap_verdict, head_verdict, body_verdict, field_verdict, outcome, end_verdict, fields, read}
 use Rattle.format.specs.declared.Counts.{Counts}
 
-abbrev Small : Verdict → Type 0
+abbrev pub Small : Verdict → Type 0
 Small v = number v ≤ 7
 
 need-small : (t : Bool) (v rest : Verdict) → Small v → Small rest → Small (need t v rest)
@@ -23,8 +23,8 @@ unfolding pick
 pick-small true v rest h k = h
 pick-small false v rest h k = k
 
--- ---- each verdict of the definition
-pair-small : (b : List ℕ) (p words i : ℕ) → Small (pair_verdict b p words i)
+-- ---- each verdict of the definition gives 0, or one of these numbers
+pub pair-small : (b : List ℕ) (p words i : ℕ) → Small (pair_verdict b p words i)
 unfolding pair_verdict
 pair-small b p words i =
     need-small _ _ _ (lit≤ tt) (need-small _ _ _ (lit≤ tt) (need-small _ _ _ (lit≤ tt) (need-small _ _ _ (lit≤ tt) (lit≤ tt))))
@@ -34,41 +34,41 @@ unfolding first_of
 first-small zero f h = lit≤ tt
 first-small (suc n) f h = after-small (first_of n f) (f n) (first-small n f h) (h n)
 
-list-small : (b : List ℕ) (p words count : ℕ) → Small (list_verdict b p words count)
+pub list-small : (b : List ℕ) (p words count : ℕ) → Small (list_verdict b p words count)
 unfolding list_verdict
 list-small b p words count = need-small _ _ _ (lit≤ tt) (first-small count _ (pair-small b p words))
 
-word-small : (b : List ℕ) → Small (word_verdict b)
+pub word-small : (b : List ℕ) → Small (word_verdict b)
 unfolding word_verdict
 word-small b =
     need-small _ _ _ (lit≤ tt) (need-small _ _ _ (lit≤ tt) (need-small _ _ _ (lit≤ tt)
     (need-small _ _ _ (lit≤ tt) (need-small _ _ _ (lit≤ tt) (need-small _ _ _ (lit≤ tt) (lit≤ tt))))))
 
-tempo-small : (b : List ℕ) (words count : ℕ) → Small (tempo_verdict b words count)
+pub tempo-small : (b : List ℕ) (words count : ℕ) → Small (tempo_verdict b words count)
 unfolding tempo_verdict
 tempo-small b words count = need-small _ _ _ (lit≤ tt) (need-small _ _ _ (lit≤ tt) (list-small b 6 words count))
 
-anchor-small : (b : List ℕ) (words count : ℕ) → Small (anchor_verdict b words count)
+pub anchor-small : (b : List ℕ) (words count : ℕ) → Small (anchor_verdict b words count)
 unfolding anchor_verdict
 anchor-small b words count = need-small _ _ _ (lit≤ tt) (list-small b 4 words count)
 
-span-small : (b : List ℕ) (words count : ℕ) → Small (span_verdict b words count)
+pub span-small : (b : List ℕ) (words count : ℕ) → Small (span_verdict b words count)
 unfolding span_verdict
 span-small b words count =
     need-small _ _ _ (lit≤ tt) (need-small _ _ _ (lit≤ tt)
     (after-small _ _ (list-small b 8 words count) (need-small _ _ _ (lit≤ tt) (lit≤ tt))))
 
-cap-small : (b : List ℕ) → Small (cap_verdict b)
+pub cap-small : (b : List ℕ) → Small (cap_verdict b)
 unfolding cap_verdict
 cap-small b = need-small _ _ _ (lit≤ tt) (lit≤ tt)
 
-head-small : (r : List ℕ) (last : ℕ) (so : Counts) → Small (head_verdict r last so)
+pub head-small : (r : List ℕ) (last : ℕ) (so : Counts) → Small (head_verdict r last so)
 unfolding head_verdict
 head-small r last so =
     need-small _ _ _ (lit≤ tt) (need-small _ _ _ (lit≤ tt) (need-small _ _ _ (lit≤ tt)
     (need-small _ _ _ (lit≤ tt) (need-small _ _ _ (lit≤ tt) (need-small _ _ _ (lit≤ tt) (lit≤ tt))))))
 
-body-small : (t : ℕ) (b : List ℕ) (words n : ℕ) → Small (body_verdict t b words n)
+pub body-small : (t : ℕ) (b : List ℕ) (words n : ℕ) → Small (body_verdict t b words n)
 unfolding body_verdict
 body-small t b words n =
     pick-small _ _ _ (word-small b)
@@ -76,11 +76,11 @@ body-small t b words n =
     (pick-small _ _ _ (anchor-small b words n)
     (pick-small _ _ _ (span-small b words n) (cap-small b))))
 
-field-small : (r : List ℕ) (last : ℕ) (so : Counts) → Small (field_verdict r last so)
+pub field-small : (r : List ℕ) (last : ℕ) (so : Counts) → Small (field_verdict r last so)
 unfolding field_verdict
 field-small r last so = after-small _ _ (head-small r last so) (body-small _ _ _ _)
 
-end-small : (last words : ℕ) → Small (end_verdict last words)
+pub end-small : (last words : ℕ) → Small (end_verdict last words)
 unfolding end_verdict
 end-small last words = need-small _ _ _ (lit≤ tt) (need-small _ _ _ (lit≤ tt) (lit≤ tt))
 

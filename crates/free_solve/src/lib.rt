@@ -61,7 +61,13 @@ fn noisy(
 {
     let n = system.n;
     let m = system.m;
-    let solution = noisy_kkt::solve_noisy_kkt(system, noise)?;
+    let answer = noisy_kkt::solve_noisy_kkt(system, noise);
+    // What a solve that missed has left there goes.
+    if answer.is_err() {
+        x[..n].fill(0.0);
+        multipliers[..m].fill(0.0);
+    }
+    let solution = answer?;
     let x_noisy = solution.x;
     let multipliers_noisy = solution.multipliers;
     vector::copy(&x_noisy[..n], n, x);

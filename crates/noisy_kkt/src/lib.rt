@@ -46,8 +46,8 @@ fn solve_by_in(
         n,
         m,
     };
-    let s = scaled_kkt::solve_scaled(&problem, noise / scale, coefficients, range, null)?;
-    Ok(solution::rescaled(s, scale, &columns[..m], m))
+    let answer = scaled_kkt::solve_scaled(&problem, noise / scale, coefficients, range, null);
+    solution::rescaled(answer, scale, &columns[..m], m)
 }
 
 // In work memory of SQUARE and TALL numbers.

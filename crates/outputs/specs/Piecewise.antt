@@ -67,3 +67,19 @@ module _ (x multipliers : List Float) (passes : ℕ) where
   pub refused-error : (e : SolveError) → Refused (engine (refused e)) (error_number e)
   unfolding number x_or multipliers_or passes_or
   refused-error e = record { numbered = refl; x_written = refl; multipliers_written = refl; passes_written = refl }
+
+  pub refused-non_finite : Refused (engine (refused NonFiniteCovariance)) 11
+  unfolding error_number
+  refused-non_finite = refused-error NonFiniteCovariance
+
+  pub refused-singular : Refused (engine (refused SingularCovariance)) 12
+  unfolding error_number
+  refused-singular = refused-error SingularCovariance
+
+  pub refused-unbounded : Refused (engine (refused Unbounded)) 13
+  unfolding error_number
+  refused-unbounded = refused-error Unbounded
+
+  pub refused-not_converged : Refused (engine (refused NotConverged)) 14
+  unfolding error_number
+  refused-not_converged = refused-error NotConverged

@@ -108,8 +108,10 @@ pub fn write_capped(
 {
     match solved {
         Ok(optimum) => {
-            *raise = optimum.raise;
-            write_minimum(Ok(optimum.minimum), n, w, x, multipliers, passes)
+            let raised = optimum.raise;
+            let number = write_minimum(Ok(optimum.minimum), n, w, x, multipliers, passes);
+            *raise = raised;
+            number
         }
         Err(error) => write_minimum(Err(error), n, w, x, multipliers, passes),
     }

@@ -1,13 +1,13 @@
 // What is written of an engine's answer, as it is held. The definition is specs/Placed.antt.
 #![tactic(auto)]
 
-ghost use Rattle.std.specs.Prelude.{◌≡◌, ◌+◌, take};
+ghost use Rattle.std.specs.Prelude.{◌≡◌, ◌+◌, take, IfOk};
 ghost use Rattle.block.specs.Ranges.{Ranged};
 ghost use Rattle.format.specs.Structs.{Sound, block_of};
 ghost use Rattle.gap.specs.Input.{PlanAndPrices};
 ghost use Rattle.answer.specs.Back.{Sized};
 ghost use Rattle.placement.specs.Placed.{answer_for};
-ghost use Rattle.placement.specs.Held.{answer_in, Holds, Left};
+ghost use Rattle.placement.specs.Held.{answer_in, Holds, Left, Leaves};
 ghost use Rattle.placement.specs.Code.{written_of};
 
 use format::{Block, Refusal};
@@ -77,7 +77,7 @@ pub fn written(
 }
 
 // Writes the answer file to the front of the slice, whose other bytes are kept: the file's length, or a refusal that writes nothing.
-pub fn write(p: Placement, out: &mut [u8]) -> Result<usize, Refusal>
+fn write_answer(p: Placement, out: &mut [u8]) -> Result<usize, Refusal>
     requires sound { Sound p.block }
     requires sized { Sized (answer_in p) }
     ensures { Left p out.old result out.new }
@@ -88,4 +88,13 @@ pub fn write(p: Placement, out: &mut [u8]) -> Result<usize, Refusal>
         return Err(Refusal::ShortSlice);
     }
     Ok(answer::file_size(n, k))
+}
+
+// The same of what was placed: a refusal is handed on, and writes nothing.
+pub fn write(placed: Result<Placement, Refusal>, out: &mut [u8]) -> Result<usize, Refusal>
+    requires { IfOk placed (λ p. Sound p.block × Sized (answer_in p)) }
+    ensures { Leaves placed out.old result out.new }
+{
+    let p = placed?;
+    write_answer(p, out)
 }

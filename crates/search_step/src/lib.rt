@@ -2,12 +2,12 @@
 // ends in. at are the kinks' points.
 #![tactic(auto)]
 
-ghost use Rattle.std.specs.Prelude.{◌≡◌, ℕ, ◌≤◌, length, Ok};
+ghost use Rattle.std.specs.Prelude.{◌≡◌, ℕ, ◌≤◌, length};
 ghost use Rattle.sizes.specs.Sizes as Sizes;
 ghost use Rattle.minimum.specs.Minimized.{minimized_of};
 ghost use Rattle.minimum.specs.Capped.{capped_of};
 ghost use Rattle.bracket.specs.Bracket.{bracket_of};
-ghost use Rattle.search_step.specs.Step.{Gives, stepped_of, found};
+ghost use Rattle.search_step.specs.Step.{Gives, stepped_of, ended_of};
 ghost use Rattle.search_step.specs.Step as Definition;
 
 use bracket::Bracket;
@@ -109,10 +109,11 @@ pub fn cut_by(
 }
 
 // ---- the answer
-// The bracket's best solution, accepted at `high`.
-pub fn accepted(bracket: Bracket) -> CappedMinimum
-    ensures { (n w : ℕ) → capped_of n w (Ok result) ≡ Definition.accepted (found (bracket_of n w bracket)) }
+// The best solution of the bracket that the search ends in, accepted at `high`.
+pub fn accepted(found: Result<Bracket, SolveError>) -> Result<CappedMinimum, SolveError>
+    ensures { (n w : ℕ) → capped_of n w result ≡ Definition.accepted (ended_of n w found) }
 {
+    let bracket = found?;
     let x = bracket.best;
     let multipliers = bracket.multipliers;
     let minimum = Minimum {
@@ -120,8 +121,8 @@ pub fn accepted(bracket: Bracket) -> CappedMinimum
         multipliers: multipliers,
         passes: bracket.passes,
     };
-    CappedMinimum {
+    Ok(CappedMinimum {
         minimum: minimum,
         raise: bracket.high,
-    }
+    })
 }

@@ -60,13 +60,19 @@ fn rescaled_multipliers(
 }
 
 // The multipliers of the system before K and the columns of E were scaled.
-pub fn rescaled(s: Solution, scale: f64, columns: &[f64], m: usize) -> Solution
+pub fn rescaled(
+    answer: Result<Solution, KktError>,
+    scale: f64,
+    columns: &[f64],
+    m: usize,
+) -> Result<Solution, KktError>
     requires { (m ≤ Sizes.columns) × (m ≤ length columns.now) }
-    ensures { (n : ℕ) → Definition.solution_of n m (Ok result)
-        ≡ Definition.rescaled m scale columns.now (Definition.solution_of n m (Ok s)) }
+    ensures { (n : ℕ) → Definition.solution_of n m result
+        ≡ Definition.rescaled m scale columns.now (Definition.solution_of n m answer) }
 {
+    let s = answer?;
     let x = s.x;
     let multipliers = s.multipliers;
     let multipliers = rescaled_multipliers(&multipliers[..m], scale, columns, m);
-    Solution { x, multipliers }
+    Ok(Solution { x, multipliers })
 }

@@ -112,7 +112,7 @@ pub fn copy(a: &[f64], n: usize, y: &mut [f64])
     requires { (n ≤ length a.now) × (n ≤ length y.old) }
     ensures { y.new ≡ over (Vector.copy n a.now) y.old }
 {
-    y[..n].copy_from_slice(&a[..n]);
+    write_each(y, n, |k, _| a[k]);
 }
 
 pub fn fill(y: &mut [f64], n: usize, v: f64)

@@ -1,4 +1,3 @@
-use Rattle.std.proofs.lemmas.Result.{err_from_is_err_and}
 use Rattle.std.specs.Prelude.{Float, take}
 use Rattle.std.proofs.Common.{length-take}
 use Rattle.folds.specs.Kit.{◌≡◌, refl, sym, ap, ◌∙◌, ◌+◌, ◌≤◌, arith, length, rules}
@@ -8,7 +7,6 @@ use Rattle.minimum.specs.Laws.{minimized_of-ok, minimized_of-err, capped_of-ok, 
 use Rattle.bracket.specs.Ends.{new-rising}
 use Rattle.bracket.specs.Laws.{new-of}
 use Rattle.search_step.specs.Step.{ended_of, accepted}
-use Rattle.search_step.specs.Laws.{ended-ok, ended-err}
 use Rattle.minimum.specs.Minimized.{minimized_of}
 use Rattle.multiplier.specs.Search.{problem}
 use Rattle.cap.specs.Capped.{search_by}
@@ -83,16 +81,4 @@ searched c =
     ]
 
 pub returns : goal.returns
-returns c =
-    c.accepted.ensures _ _
-    ∙ ap accepted (sym (ap (ended_of _ _) c.in_ok-found.was ∙ ended-ok _ _ _))
-    ∙ searched (goal.at.returns c).After-reach_and_narrow
-
-pub returns-in_err-found : goal.returns-in_err-found
-unfolding accepted
-returns-in_err-found c =
-    let p = err_from_is_err_and c.from_residual.result c.from_residual.ensures.1 in
-    rw (p.1, p.2)
-    (capped_of-err _ _ _
-    ∙ ap accepted (sym (ap (ended_of _ _) c.in_err-found.was ∙ ended-err _ _ _))
-    ∙ searched (goal.at.returns-in_err-found c).After-reach_and_narrow)
+returns c = c.accepted.ensures _ _ ∙ searched (goal.at.returns c).After-reach_and_narrow

@@ -1,24 +1,9 @@
-use Rattle.std.proofs.lemmas.Result.{err_from_is_err_and}
-use Rattle.folds.specs.Kit.{refl, ◌∙◌}
+use Rattle.folds.specs.Kit.{refl}
 use Rattle.folds.specs.Tab.{taken-over}
 use Rattle.vector.specs.Laws.{length-divided}
 use Rattle.matrix.specs.Laws.{length-columns_divided}
-use Rattle.solution.specs.Laws.{rescaled-refusal}
 use Rattle.noisy_kkt.specs.Laws.{by_from}
 use Rattle.noisy_kkt.proofs.solve_by_in.Goals as goal
-
-pub returns-in_err-s : goal.returns-in_err-s
-returns-in_err-s c =
-    let p = err_from_is_err_and c.from_residual.result c.from_residual.ensures.1 in
-    rw (p.1, p.2)
-    (by_from _ _ _ _ _ _ c.args.noise _ c.column_scales-columns.ensures
-    (taken-over _ _ (length-divided _ _ _) c.divided.ensures)
-    c.divided-c.ensures
-    (taken-over _ _ (length-columns_divided _ _ _ _) c.scaled_e.ensures)
-    c.div-b.ensures
-    c.in_err-s.ensures
-    refl
-    (rescaled-refusal _ _ _ _))
 
 pub returns : goal.returns
 returns c =
@@ -27,6 +12,6 @@ returns c =
     c.divided-c.ensures
     (taken-over _ _ (length-columns_divided _ _ _ _) c.scaled_e.ensures)
     c.div-b.ensures
-    c.in_ok-s.ensures
+    c.solve_scaled-answer.ensures
     refl
     (c.rescaled.ensures c.args.system.now.n)
